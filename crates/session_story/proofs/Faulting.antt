@@ -1,15 +1,16 @@
 -- The tests of a page's records tell its faults, each by its reason.
-use Rattle.std.proofs.Common.{◌≡◌, ℕ, zero, suc, ◌+◌, ◌<◌, ◌≤◌, ◌⊎◌, inl, inr, Bool, true, false, cond, not, ◌&&◌, ◌||◌, List, map, length, Option, Some, None, refl, sym, ap, ◌∙◌, subst, arith, eq-eqb}
-use Rattle.std.specs.Prelude.{Contains, ◌↔◌, ◌==◌, is_some, slice_get, slice_index}
+use Rattle.std.proofs.Common.{◌≡◌, ℕ, suc, ◌+◌, ◌<◌, ◌≤◌, ◌⊎◌, inl, inr, Bool, true, false, cond, not, ◌&&◌, ◌||◌, List, map, length, Option, Some, None, refl, sym, ap, ◌∙◌, subst, arith, eq-eqb}
+use Rattle.std.specs.Prelude.{Contains, ◌↔◌, ◌==◌, is_some, nat_lt, slice_get, slice_index}
 use Rattle.std.specs.Bool.{Decides}
 use Rattle.std.specs.List.{range_with_len}
 use Rattle.std.specs.Str.{bytes_eq}
-use Rattle.std.proofs.lemmas.Bool.{and_from, and_parts, cases_lt, eqb-true, le-ltb, lt-ltb, ltb-true}
+use Rattle.std.proofs.lemmas.Bool.{and_from, and_parts, cases_lt, eqb-true, le-ltb, lt-ltb}
 use Rattle.std.proofs.lemmas.Grind.{same_number_lists}
 use Rattle.std.proofs.lemmas.List.FromFn.{get_or-map-range_with_len, length-map-range_with_len}
 use Rattle.std.proofs.lemmas.Option.{slice_get_within}
 use Rattle.migration_types.specs.declared.records.GuestRec.{GuestRec}
 use Rattle.migration_types.specs.declared.records.GuestRec.TheVariants.{Read, Write, Release, Miss, Halt, Resume, See}
+use Rattle.migration_types.specs.declared.records.LogName.TheVariants.{Pager, Source}
 use Rattle.migration_types.specs.declared.records.SourceRec.{SourceRec}
 use Rattle.migration_types.specs.declared.records.SourceRec.TheVariants.{Halted as SourceHalted, State, Send, Again, Ask, Done, Back}
 use Rattle.migration_types.specs.declared.records.PagerRec.{PagerRec}
@@ -28,10 +29,9 @@ use Rattle.audit_model.specs.Names.{if_there}
 use Rattle.audit_model.specs.Shape.{earlier, is_placement_of, passes}
 use Rattle.audit_model.specs.inner.PageFaultTests.{fault_test, is_altered, is_early, is_early_of, is_flat_page, is_given, is_second, is_stale, is_unfit, is_wrong_read}
 use Rattle.audit_model.proofs.PageFaultTests.{fault_Decides}
-use Rattle.page_facts.specs.Findings.{IsFindings}
 use Rattle.page_facts.specs.PageFaults.{page_at}
 use Rattle.page_facts.specs.Tables.{first_before}
-use Rattle.page_facts.specs.declared.findings.Findings.{Findings}
+use Rattle.page_facts.specs.inner.Frontier.{is_before}
 use Rattle.page_facts.specs.inner.OfFindings.{uncovered_of}
 use Rattle.page_facts.proofs.Before.{first_none, first_some}
 use Rattle.page_facts.proofs.Listing.{some_is_first}
@@ -44,7 +44,7 @@ use Rattle.session_story.specs.declared.kinds.Tally.{Tally}
 use Rattle.session_story.specs.declared.pages.PageStory.{PageStory}
 use Rattle.session_story.specs.inner.Cells.{IsPage}
 use Rattle.session_story.specs.inner.Kinds.{IsHalted, IsTallyBy, comes_over, freed_by, is_early_by, is_placed_fault, is_sent_fault, is_uncovered, late_after, reads_other}
-use Rattle.session_story.proofs.Tallying.{AreAll, all_are}
+use Rattle.session_story.proofs.Tallying.{all_are}
 
 -- ---- a test of one log that tells the faults for a reason
 
@@ -89,17 +89,16 @@ module _ (s : Recorded) (page : ℕ) (why : PageReason) {A : Type 0} (log : List
   -- by the test of the fault itself
   pub tells_by : (t : ℕ → A → Bool) → ((n : ℕ) → fault_test s why (log_of why, n) ≡ passes (t n) (slice_get log n)) → ((n : ℕ) (r : A) → slice_get log n ≡ Some r → test n r ≡ (of_page page_by page r && t n r)) → Tells
   tells_by t is_test same n r is =
-      let at : fault_test s why (log_of why, n) ≡ t n r = is_test n ∙ ap (λ o. passes (t n) o) is in
-      (
+      let at : fault_test s why (log_of why, n) ≡ t n r = is_test n ∙ ap (λ o. passes (t n) o) is in (
         λ e. let p = and_parts (of_page page_by page r) (t n r) (sym (same n r is) ∙ e) in ((fault_Decides s why (log_of why, n)).0 (at ∙ p.1), p.0),
         λ f. same n r is ∙ and_from (of_page page_by page r) (t n r) f.1 (sym at ∙ (fault_Decides s why (log_of why, n)).1 f.0),
       )
 
 -- ---- records before another
 
-is_before : (n : ℕ) (o : Option ℕ) → is_some (below n o) ≡ Rattle.page_facts.specs.inner.Frontier.is_before o n
-is_before n None = refl
-is_before n (Some k) = go (Rattle.std.specs.Prelude.nat_lt k n)
+below_is : (n : ℕ) (o : Option ℕ) → is_some (below n o) ≡ is_before o n
+below_is n None = refl
+below_is n (Some k) = go (nat_lt k n)
   where
     go : (b : Bool) → is_some (cond b (Some k) None) ≡ b
     go true = refl
@@ -107,13 +106,13 @@ is_before n (Some k) = go (Rattle.std.specs.Prelude.nat_lt k n)
 
 -- an earlier record passes exactly if the first of all that do comes before
 pub earlier_is : {A : Type 0} (test : A → Bool) (log : List A) (first : Option ℕ) → first ≡ first_before (λ m. test) log (length log) → (n : ℕ) → n ≤ length log → earlier test log n ≡ is_some (below n first)
-earlier_is {A} test log first e n within = earlier_some test log n ∙ some_is_first (λ m. test) log n ∙ go (first_before (λ m. test) log n) refl first (sym e) ∙ sym (is_before n first)
+earlier_is {A} test log first e n within = earlier_some test log n ∙ some_is_first (λ m. test) log n ∙ go (first_before (λ m. test) log n) refl first (sym e) ∙ sym (below_is n first)
   where
-    go : (o : Option ℕ) → first_before (λ m. test) log n ≡ o → (l : Option ℕ) → first_before (λ m. test) log (length log) ≡ l → is_some o ≡ Rattle.page_facts.specs.inner.Frontier.is_before l n
+    go : (o : Option ℕ) → first_before (λ m. test) log n ≡ o → (l : Option ℕ) → first_before (λ m. test) log (length log) ≡ l → is_some o ≡ is_before l n
     go None f None g = refl
     go None f (Some k) g = by (cases_lt k n)
       where
-        by : (k < n) ⊎ (n ≤ k) → false ≡ Rattle.std.specs.Prelude.nat_lt k n
+        by : (k < n) ⊎ (n ≤ k) → false ≡ nat_lt k n
         by (inr le) = sym (le-ltb k n le)
         by (inl lt) = let h = first_some (λ m. test) log (length log) k g in let no_one = first_none (λ m. test) log n f k h.by h.stands lt in let yes_one = h.passes_test in absurd (cc)
     go (Some j) f None g = let h = first_some (λ m. test) log n j f in let no_one = first_none (λ m. test) log (length log) g j h.by h.stands (slice_get_within log j h.by h.stands) in let yes_one = h.passes_test in absurd (cc)
@@ -264,7 +263,7 @@ module _ (s : Recorded) (h : Halted) (are : IsHalted s h) where
   stale_is n Done is = refl
   stale_is n Back is = refl
 
-  pub sent_are : (why : PageReason) → log_of why ≡ Rattle.migration_types.specs.declared.records.LogName.TheVariants.Source → (t : Tally) → IsTallyBy (sent why) s.source (length s.source) t → IsTally s h.page why t
+  pub sent_are : (why : PageReason) → log_of why ≡ Source → (t : Tally) → IsTallyBy (sent why) s.source (length s.source) t → IsTally s h.page why t
   sent_are reason.Given e t by = tally_is s h.page reason.Given s.source source_page (λ n. refl) (sent reason.Given) (tells_by s h.page reason.Given s.source source_page (λ n. refl) (sent reason.Given) (λ n. is_given s) (λ n. refl) given_is) t by
   sent_are reason.Stale e t by = tally_is s h.page reason.Stale s.source source_page (λ n. refl) (sent reason.Stale) (tells_by s h.page reason.Stale s.source source_page (λ n. refl) (sent reason.Stale) (λ n. is_stale s) (λ n. refl) stale_is) t by
   sent_are reason.Read e t by = absurd (cc)
@@ -330,7 +329,7 @@ module _ (s : Recorded) (h : Halted) (are : IsHalted s h) where
 
       go : (o : Option ℕ) → is_uncovered o h.found.look ≡ is_some (uncovered_of o h.found.look)
       go None = refl
-      go (Some k) = ap (λ b. not b) (is_before k h.found.look) ∙ at _ k
+      go (Some k) = ap (λ b. not b) (below_is k h.found.look) ∙ at _ k
 
   is_no : (b : Bool) → not b ≡ true → b ≡ false
   is_no false e = refl
@@ -370,13 +369,12 @@ module _ (s : Recorded) (h : Halted) (are : IsHalted s h) where
 
   over_tell : Tells s h.page reason.Over s.pager pager_page (λ n. refl) (placed reason.Over)
   over_tell n r is =
-      let t = over_tells n r is in
-      (
+      let t = over_tells n r is in (
         λ e. let f = t.0 e in (subst (λ o. if_fault (PagerFault s reason.Over n) o) (sym is) f.0, f.1),
         λ f. t.1 (subst (λ o. if_fault (PagerFault s reason.Over n) o) is f.0, f.1),
       )
 
-  pub placed_are : (why : PageReason) → log_of why ≡ Rattle.migration_types.specs.declared.records.LogName.TheVariants.Pager → (t : Tally) → IsTallyBy (placed why) s.pager (length s.pager) t → IsTally s h.page why t
+  pub placed_are : (why : PageReason) → log_of why ≡ Pager → (t : Tally) → IsTallyBy (placed why) s.pager (length s.pager) t → IsTally s h.page why t
   placed_are reason.Twice e t by = tally_is s h.page reason.Twice s.pager pager_page (λ n. refl) (placed reason.Twice) (tells_by s h.page reason.Twice s.pager pager_page (λ n. refl) (placed reason.Twice) (is_second s) (λ n. refl) twice_is) t by
   placed_are reason.Altered e t by = tally_is s h.page reason.Altered s.pager pager_page (λ n. refl) (placed reason.Altered) (tells_by s h.page reason.Altered s.pager pager_page (λ n. refl) (placed reason.Altered) (λ n. is_altered s) (λ n. refl) altered_is) t by
   placed_are reason.Unfit e t by = tally_is s h.page reason.Unfit s.pager pager_page (λ n. refl) (placed reason.Unfit) (tells_by s h.page reason.Unfit s.pager pager_page (λ n. refl) (placed reason.Unfit) (λ n. is_unfit s) (λ n. refl) unfit_is) t by

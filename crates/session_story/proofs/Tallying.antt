@@ -1,13 +1,12 @@
 -- The places of the records that pass a test: their tally has their number and the first.
 use Rattle.std.proofs.Common.{◌≡◌, ℕ, zero, suc, ◌+◌, ◌<◌, ◌≤◌, ◌⊎◌, inl, inr, Bool, true, false, cond, List, [], ◌∷◌, ◌++◌, get_or, length, Option, Some, None, refl, sym, ap, ◌∙◌, subst, arith}
 use Rattle.std.specs.Prelude.{Contains, ◌↔◌, slice_get}
-use Rattle.std.specs.Bool.{Decides}
 use Rattle.std.specs.List.{AllPairs}
-use Rattle.std.proofs.lemmas.Bool.{and_from, and_parts, cases_lt}
+use Rattle.std.proofs.lemmas.Bool.{cases_lt}
 use Rattle.std.proofs.lemmas.List.{get_or_push, length_push}
-use Rattle.std.proofs.lemmas.List.Elements.{Contains-append_cases, Contains-append_left, Contains-append_right}
+use Rattle.std.proofs.lemmas.List.Elements.{Contains-append_cases, Contains-append_left, Contains-append_right, Contains-get_or}
 use Rattle.std.proofs.lemmas.List.Quantifiers.{all_pairs_push}
-use Rattle.std.proofs.lemmas.Option.{slice_get-get_or, slice_get_within}
+use Rattle.std.proofs.lemmas.Option.{slice_get_within}
 use Rattle.audit_model.specs.Shape.{passes}
 use Rattle.page_facts.specs.Tables.{first_before, or_here}
 use Rattle.session_story.specs.Scans.{how_many}
@@ -63,7 +62,7 @@ module _ {A : Type 0} (test : ℕ → A → Bool) (log : List A) where
     where
       go : (b : Bool) → AllPairs (λ a b. a < b) (places_of n) → AllPairs (λ a b. a < b) (cond b (places_of n ++ n ∷ []) (places_of n))
       go false old = old
-      go true old = all_pairs_push (λ a b. a < b) (places_of n) n old (λ k d lt. (place_is n (get_or (places_of n) k d) (Rattle.std.proofs.lemmas.List.Elements.Contains-get_or (places_of n) k d lt)).below)
+      go true old = all_pairs_push (λ a b. a < b) (places_of n) n old (λ k d lt. (place_is n (get_or (places_of n) k d) (Contains-get_or (places_of n) k d lt)).below)
 
   length_is : (n : ℕ) → length (places_of n) ≡ how_many test log n
   length_is zero = refl

@@ -12,10 +12,10 @@ ghost use Rattle.session_story.specs.Pages.{IsPageStory};
 ghost use Rattle.session_story.specs.inner.Cells.{IsPage};
 ghost use Rattle.session_story.specs.inner.Kinds.{IsHalted, IsNoted, IsTallyBy, comes_over, freed_by, is_early_by, is_placed_fault, is_sent_fault, is_uncovered, late_after, reads_other};
 
+use crate::PageStory;
 use crate::pages::below;
 use crate::scans::{RecordQuestion, count_of, first_of};
 use crate::values::{cells_at_start, cells_before, change};
-use crate::PageStory;
 use audit_model::{PageReason, is_halt, is_placement_of, is_resume};
 use migration_types::{GuestRec, LogName, PageNo, PagerRec, Session, SourceRec};
 use page_facts::{Findings, halt_place};
@@ -203,7 +203,11 @@ fn early_accesses(session: &Session, page: &PageStory) -> Tally
     let mut freed = false;
     for n in 0..guest.len() {
         let rec = &guest[n];
-        note(&mut tally, is_early(rec, n as u32, page, late, freed), n as u32);
+        note(
+            &mut tally,
+            is_early(rec, n as u32, page, late, freed),
+            n as u32,
+        );
         freed = freed_after(rec, page.page, late, freed);
         late = late_after(rec, late);
     }

@@ -25,7 +25,11 @@ pub struct CellValue {
 }
 
 /// Returns the values that a page begins with, cell 0 first. Fails only if memory runs out.
-pub(crate) fn cells_at_start(alloc: Global, session: &Session, page: PageNo) -> Result<Vec<u64>, AllocError>
+pub(crate) fn cells_at_start(
+    alloc: Global,
+    session: &Session,
+    page: PageNo,
+) -> Result<Vec<u64>, AllocError>
     requires { page < session.now.geometry.pages }
     ensures { IfOk result (λ cells. IsPage cells.items (initial session.now.init page) session.now.geometry.cells) }
 {
