@@ -3,7 +3,7 @@ use Rattle.std.specs.Prelude.{ℕ, Bool, true, false, not, ◌==◌, ◌+◌, �
 use Rattle.std.specs.List.{flat_map}
 use Rattle.std.specs.Option.{option_map}
 use Rattle.migration_types.specs.declared.records.LogName.{LogName}
-use Rattle.migration_types.specs.declared.records.LogName.TheVariants.{Guest, Link, Lane, Source, Pager}
+use Rattle.migration_types.specs.declared.records.LogName.TheVariants.{Link, Lane, Source, Pager}
 use Rattle.migration_types.specs.declared.records.SourceRec.{SourceRec}
 use Rattle.migration_types.specs.declared.records.SourceRec.TheVariants.{Again}
 use Rattle.migration_types.specs.declared.records.PagerRec.{PagerRec}
@@ -37,7 +37,7 @@ use Rattle.session_story.specs.declared.explanations.Explanation.TheVariants as 
 use Rattle.session_story.specs.declared.fault_stories.PageCause.{PageCause}
 use Rattle.session_story.specs.declared.fault_stories.PageCause.TheVariants.{Sent, Placed, Zeroed, Again as PlacedAgain, Over as PlacedOver, Early as UsedEarly, Unplaced, Lost, Unrecorded}
 use Rattle.session_story.specs.declared.fault_stories.Detail.{Detail}
-use Rattle.session_story.specs.declared.fault_stories.Detail.TheVariants.{Instead, Seen, Other, Plain}
+use Rattle.session_story.specs.declared.fault_stories.Detail.TheVariants.{Instead, Seen, Other}
 use Rattle.session_story.specs.declared.fault_stories.FaultStory.{FaultStory}
 use Rattle.session_story.specs.declared.fault_stories.ShapeStory.{ShapeStory}
 use Rattle.session_story.specs.declared.kinds.Kinds.{Kinds}
