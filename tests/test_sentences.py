@@ -364,7 +364,7 @@ STORIES = (
          "The guest does nothing between its halt and its resume. Its first halt is line 7 (guest 0), and its first resume is line 9 (guest 2)."]),
     ("a fault that the report does not name", read(f"{CASES}/audit-all/session"), ("--page", "1"), [
         "Of the looks before it, this one reaches furthest: line 11 (guest 4): the guest looks at the placement pager 5.",
-        "No look reaches it at all.", "What the logs say of page 1:"]),
+        "No look reaches it at all.", "Page 1 has 2 faults in all:", "  early uses: 2, the first at line 13 (guest 6)", "What the logs say of page 1:"]),
 )
 
 

@@ -6,7 +6,6 @@ use Rattle.audit_model.specs.declared.reasons.PageReason.{PageReason}
 use Rattle.audit_model.specs.Reasons.{page_reasons, page_word}
 use Rattle.session_story.specs.Kinds.{log_of, tally_of}
 use Rattle.session_story.specs.declared.kinds.Kinds.{Kinds}
-use Rattle.session_story.specs.declared.kinds.Tally.{Tally}
 use Rattle.session_story.specs.declared.topic_stories.FullPageStory.{FullPageStory}
 use Rattle.session_answers.specs.declared.kinds.ToldKind.{ToldKind}
 use Rattle.session_answers.specs.CausesText.{line_shown}
