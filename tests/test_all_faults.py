@@ -3,7 +3,8 @@ line that are named with both.
 
 The sessions are those of test_explained.py, but for large ones. Of one that is clean or faulty, `audit --all` has to write its first line, how many
 pages have a fault, and each with its first one; and the same pages as an object. Of another it writes the first line alone.
-`explain --page` has to name the faulty record of the page just where it has one, and `explain --line` the record at the line.
+`explain --page` has to name the faulty record of the page just where it has one, and `explain --line` the record at the line. Where a page
+has several faults, `explain --page` has to list them by reason, and so does its object, of each page.
 """
 import re
 import json
@@ -15,12 +16,17 @@ from cases import each, same
 from check_model import Session as Judged
 from session_text import LOGS, SessionText
 from test_explained import is_large, made_texts
-from world_model import page_faults
+from world_model import REASONS, faults_by_reason, page_faults
 
 TOP = os.path.dirname(os.path.dirname(os.path.abspath(__file__)))
 
 # So many pages of a session, and so many of its records, are asked about.
 FEW = 4
+
+# What the faults of each reason are, in words.
+WORDS = dict(zip(REASONS, (
+    "wrong reads", "early uses", "sendings although it is released", "sendings of other contents", "further placements",
+    "placements of other contents", "placements as zeros", "placements over a release")))
 
 
 class Tests:
@@ -29,7 +35,7 @@ class Tests:
     same = staticmethod(same)
 
     def __init__(self, program):
-        self.program, self.most = program, 0
+        self.program, self.most, self.reasons = program, 0, set()
 
     def says(self, text, *words):
         ran = subprocess.run([self.program, *words, "-"], input=text.encode("latin-1"), capture_output=True)
@@ -49,6 +55,7 @@ class Tests:
         self.same(f"the object of {what}", pages, [{"page": page, "line": it[0], "reason": it[1]} for page, it in found.items()])
         for page in range(min(session.pages, FEW)):
             self.page(f"page {page} of {what}", text, first, page, found.get(page))
+            self.kinds(f"page {page} of {what}", text, page, lines, faults_by_reason(session, page))
         for log in LOGS:
             for n in range(min(len(lines.logs[log]), FEW)):
                 told, _ = self.says(text, "explain", "--line", str(lines.line(log, n)))
@@ -62,6 +69,21 @@ class Tests:
         self.same(f"the words on {what}", (told.startswith(first), f"page {page}" in told), (True, True))
         self.same(f"the fault of {what}", wrong, wanted)
 
+    def kinds(self, what, text, page, lines, found):
+        """All faults of a page by reason, in words and in the object."""
+        self.reasons.update(found)
+        many = sum(map(len, found.values()))
+        firsts = {reason: (lines.line(*records[0]), *records[0]) for reason, records in found.items()}
+        told = [f"  {WORDS[reason]}: {len(records)}, {'at' if len(records) == 1 else 'the first at'} line {firsts[reason][0]} ({firsts[reason][1]} {firsts[reason][2]})"
+                for reason, records in found.items()]
+        words = self.says(text, "explain", "--page", str(page))[0].splitlines()
+        heading = f"Page {page} has {many} faults in all:"
+        at = words.index(heading) + 1 if heading in words else len(words)
+        self.same(f"the faults of {what}", words[at:at + len(told)] if many > 1 else [it for it in words if it.endswith("faults in all:")], told if many > 1 else [])
+        listed = json.loads(self.says(text, "explain", "--page", str(page), "--format", "json")[0])["faults"]
+        self.same(f"the listed faults of {what}", listed, [
+            {"reason": reason, "count": len(records), "line": firsts[reason][0], "log": firsts[reason][1], "record": firsts[reason][2]} for reason, records in found.items()])
+
 
 @pytest.mark.slow
 @pytest.mark.cases(2800)
@@ -70,3 +92,4 @@ def test_all_faults(program):
     for file, text in each([it for it in made_texts() if not is_large(it[1])][1::3]):
         tests.session(os.path.relpath(file, TOP), text)
     same("sessions with faults on more than one page", tests.most > 1, True)
+    same("the reasons of all faults", tests.reasons, set(REASONS))

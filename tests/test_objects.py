@@ -164,9 +164,11 @@ class Tests:
         found = json.loads(output)
         self.same(f"the line of the story of {what}", output.decode(), json.dumps(found, separators=(",", ":")) + "\n")
         names = list(found)
-        topic, cause, records = found.pop("topic", None), found.pop("cause", None), found.pop("records", None)
+        topic, cause, faults, records = (found.pop(name, None) for name in ("topic", "cause", "faults", "records"))
         self.same(f"the story of {what}", list(found.items()), list(report.items()))
-        self.same(f"the last fields of the story of {what}", names[len(found):], [name for name, it in (("topic", topic), ("cause", cause), ("records", records)) if it is not None])
+        self.same(f"the last fields of the story of {what}", names[len(found):],
+                  [name for name, it in (("topic", topic), ("cause", cause), ("faults", faults), ("records", records)) if it is not None])
+        self.same(f"whether faults are listed in the story of {what}", faults is not None, "page" in (topic or {}) and "pages" not in topic)
         self.cause(what, cause, records, words[1].decode())
         return topic, records, words[1].decode()
 

@@ -48,6 +48,10 @@ EACH_WANTED = (
     "a `got` or a `pull` before it that took a `send` of the page, or a repeat of it", "a `got` before it", "a `got` or a `pull` before it")
 WANTED = f"(?:{'|'.join(EACH_WANTED)})"
 
+# What the faults of a page are, by their reason. tests/test_all_faults.py has a page with each.
+WRONG = ("wrong reads", "early uses", "sendings although it is released", "sendings of other contents", "further placements",
+         "placements of other contents", "placements as zeros", "placements over a release")
+
 # Each sentence, by its name in the sources, and the forms that it has.
 FORMS = {
     "Wrong": [rf"L{PLACE[1:]} is wrong: {DONE}\."],
@@ -80,6 +84,8 @@ FORMS = {
     "EveryOrder": [r"In every order of the records the use finds no page\.", r"It is wrong in every order of the records\."],
     "ShownOrder": [r"The order that the audit shows puts the placement, and all that has to come after it, behind " + where + r"\."
                    for where in ("this use, which then finds no page", "the release, and so over the zeros")],
+    "Faults": [r"Page \d+ has \d+ faults in all:"],
+    "FaultsFor": [rf"  (?:{'|'.join(WRONG)}): {many}" for many in (rf"1, at {PLACE}", rf"\d+, the first at {PLACE}")],
     "MoreFaulty": [r"1 more page has a fault; audit --all lists every one\.", r"\d+ more pages have a fault; audit --all lists every one\."],
     "Misshapen": [rf"L{PLACE[1:]} does not have the right shape: {DONE}\."],
     "OutOfPhase": [rf"{rule} Its first halt is {PLACE}, and (?:its first resume is {PLACE}|it is never resumed)\." for rule in (
@@ -358,7 +364,7 @@ STORIES = (
          "The guest does nothing between its halt and its resume. Its first halt is line 7 (guest 0), and its first resume is line 9 (guest 2)."]),
     ("a fault that the report does not name", read(f"{CASES}/audit-all/session"), ("--page", "1"), [
         "Of the looks before it, this one reaches furthest: line 11 (guest 4): the guest looks at the placement pager 5.",
-        "No look reaches it at all.", "What the logs say of page 1:"]),
+        "No look reaches it at all.", "Page 1 has 2 faults in all:", "  early uses: 2, the first at line 13 (guest 6)", "What the logs say of page 1:"]),
 )
 
 

@@ -133,10 +133,22 @@ def first_fault(session):
     return next(iter(faults(session)), None)
 
 
+def page_of(session, log, n):
+    """The page of a record that is a fault."""
+    words = session.logs[log][n]
+    return int(words[2] if log == "guest" else words[1])
+
+
+def faults_by_reason(session, page):
+    """The faults of a page: each reason that there is, with its records by log and place, in the order of the reasons."""
+    own = [it for it in faults(session) if page_of(session, *it[:2]) == page]
+    found = {reason: [(log, n) for log, n, of in own if of == reason] for reason in REASONS}
+    return {reason: records for reason, records in found.items() if records}
+
+
 def page_faults(session):
     """The first fault of each page that has one, in the order of pages."""
     first = {}
     for log, n, reason in faults(session):
-        words = session.logs[log][n]
-        first.setdefault(int(words[2] if log == "guest" else words[1]), (log, n, reason))
+        first.setdefault(page_of(session, log, n), (log, n, reason))
     return dict(sorted(first.items()))

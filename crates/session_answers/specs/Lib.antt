@@ -1,6 +1,7 @@
 pub mod JsonText
 pub mod RecordsText
 pub mod CausesText
+pub mod KindsText
 pub mod TopicsText
 pub mod inner
 pub mod Judged

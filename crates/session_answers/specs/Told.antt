@@ -10,7 +10,6 @@ use Rattle.completeness.specs.declared.lack.Lack.{Lack}
 use Rattle.story_words.specs.declared.sentences.Sentence.{Sentence}
 use Rattle.session_story.specs.declared.topic_stories.TopicStory.{TopicStory}
 use Rattle.migration_types.specs.declared.topic.Topic.{Topic}
-use Rattle.migration_types.specs.declared.topic.Topic.TheVariants as topic
 use Rattle.story_words.specs.Lacks.{missing_told}
 use Rattle.story_words.specs.Sentences.{told_in_full}
 use Rattle.session_story.specs.Topics.{IsTold}

@@ -5,7 +5,7 @@ use Rattle.audit_model.specs.Reasons.{page_word}
 use Rattle.page_facts.specs.declared.page_fault.PageFault.{PageFault}
 use Rattle.audit_report.specs.declared.report.Report.{Report}
 use Rattle.session_story.specs.Causes.{cause_of}
-use Rattle.session_story.specs.Topics.{IsTold}
+use Rattle.session_story.specs.Topics.{IsTold, page_in}
 use Rattle.session_story.specs.declared.fault_stories.FaultStory.{FaultStory}
 use Rattle.session_story.specs.declared.topic_stories.FullPageStory.{FullPageStory}
 use Rattle.session_story.specs.declared.topic_stories.LineStory.{LineStory}
@@ -14,6 +14,7 @@ use Rattle.session_story.specs.declared.topic_stories.TopicStory.{TopicStory}
 use Rattle.session_story.specs.declared.topic_stories.TopicStory.TheVariants as story
 use Rattle.session_answers.specs.JsonText.{listed, number, opened, record_in, report_begun, word}
 use Rattle.session_answers.specs.CausesText.{cause_told}
+use Rattle.session_answers.specs.KindsText.{faults_told}
 use Rattle.session_answers.specs.RecordsText.{records_of, told_record}
 
 -- the first fault of a page, as in ,"fault":{"line":13,"log":"guest","record":6,"reason":"early"}
@@ -47,9 +48,12 @@ topic_of tell s (story.Report e) = []
 topic_of tell s (story.Page n t) = codes ",\"topic\":" ++ page_topic tell s n t ++ codes "}"
 topic_of tell s (story.Line line t) = codes ",\"topic\":" ++ line_topic tell s line t ++ codes "}"
 
--- the object of a report with its story on a topic: the topic, the cause of its fault, and the records of the story
+-- The object of a report with its story on a topic: the topic, the cause of its fault, all faults of the page by kind, and
+-- the records of the story.
 abbrev pub told_object : (ℕ → ℕ) → Recorded → Report → TopicStory → List ℕ
-told_object tell s report t = report_begun tell s report ++ topic_of tell s t ++ cause_told tell s (cause_of t) ++ listed (codes "records") told_record (records_of tell s t) ++ codes "}\n"
+told_object tell s report t =
+    report_begun tell s report ++ topic_of tell s t ++ cause_told tell s (cause_of t) ++ faults_told tell s (page_in t)
+    ++ listed (codes "records") told_record (records_of tell s t) ++ codes "}\n"
 
 -- this is the story on some topic
 abbrev pub IsStory : Recorded → Report → TopicStory → Type 0

@@ -10,7 +10,7 @@ use session_story::{Cause, CauseKind, Name, line_at};
 use std::alloc::AllocError;
 
 /// Returns the line number that is printed for a record, if the session has the record.
-fn line_shown<L: Lines>(lines: &L, session: &Session, name: Name) -> Option<u64>
+pub(crate) fn line_shown<L: Lines>(lines: &L, session: &Session, name: Name) -> Option<u64>
     ensures { result ≡ line_shown (L.tell lines.now) session.now name }
 {
     match line_at(session, name.0, name.1) {

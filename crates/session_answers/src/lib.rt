@@ -5,6 +5,7 @@
 mod causes;
 mod fields;
 mod forms;
+mod kinds;
 mod lacks;
 mod lists;
 mod objects;

@@ -9,6 +9,7 @@ use crate::causes::push_cause;
 use crate::fields::{
     begin, end, push_bare, push_number_under, push_page, push_record, push_word_under,
 };
+use crate::kinds::push_faults;
 use crate::lists::{push_list_under, push_runs};
 use crate::records::records_of;
 use crate::topics::push_topic;
@@ -147,11 +148,11 @@ pub fn push_all_faults(
 }
 
 /// Appends the object of the report on a session with the story on a topic: the topic, unless it is the report, the
-/// cause of the fault of a page that the story tells, and the records of the story, each with its role. Line numbers are
-/// from `lines`. Of the report, these are the records that
-/// led to what it names, and for a clean session none. Of a page, they are the record of its first fault, if it has one,
-/// and those of the page's story. Of a line, they are its record and those of the page that this is about. Fails only if
-/// memory runs out.
+/// cause of the fault of a page that the story tells, all faults by kind of the page that it is about, and the records of
+/// the story, each with its role. Line numbers are from `lines`. Of the report, these are the records that led to what it
+/// names, and for a clean session none. Of a page, they are the record of its first fault, if it has one, and those of
+/// the page's story. Of a line, they are its record and those of the page that this is about. Fails only if memory runs
+/// out.
 pub fn push_told<L: Lines>(
     alloc: Global,
     out: &mut Vec<u8>,
@@ -167,6 +168,7 @@ pub fn push_told<L: Lines>(
     begin_report(out, lines, session, report)?;
     push_topic(out, lines, session, told)?;
     push_cause(out, lines, session, cause_of(told))?;
+    push_faults(alloc, out, lines, session, &told.page())?;
     push_list_under(out, b"records", &records)?;
     end(out)
 }

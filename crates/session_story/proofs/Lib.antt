@@ -1,4 +1,6 @@
 pub mod Scanning
+pub mod Tallying
+pub mod Faulting
 pub mod Unasked
 pub mod Delivered
 pub mod Losses

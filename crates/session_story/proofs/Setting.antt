@@ -1,5 +1,5 @@
 -- The value of a cell, by the last record that set it.
-use Rattle.std.proofs.Common.{◌≡◌, ℕ, zero, suc, Bool, true, false, cond, Option, Some, None, refl, sym, ap, ◌∙◌}
+use Rattle.std.proofs.Common.{◌≡◌, ℕ, zero, suc, ◌+◌, Bool, true, false, cond, List, Option, Some, None, refl, sym, ap, ◌∙◌, arith}
 use Rattle.std.specs.Prelude.{◌==◌, ◌&&◌, slice_get}
 use Rattle.migration_types.specs.declared.records.GuestRec.{GuestRec}
 use Rattle.migration_types.specs.declared.records.GuestRec.TheVariants.{Read, Write, Release, Miss, Halt, Resume, See}
@@ -9,7 +9,7 @@ use Rattle.audit_model.specs.Flat.{cell_after, changed, flat}
 use Rattle.audit_model.specs.Shape.{passes}
 use Rattle.session_story.specs.Scans.{last_before}
 use Rattle.session_story.specs.Values.{sets}
-use Rattle.session_story.specs.inner.Cells.{set_by}
+use Rattle.session_story.specs.inner.Cells.{IsPage, set_by}
 
 -- the value that this record gave the cell, or the one that it begins with
 abbrev pub value_by : Recorded → ℕ → ℕ → Option ℕ → ℕ
@@ -47,3 +47,12 @@ module _ (s : Recorded) (page cell : ℕ) where
           ap (λ o. changed (cell_after page cell) o (flat s n page cell)) is
           ∙ step n r is same
           ∙ sym (ap (λ o. value_by s page cell (cond (passes (sets page cell) o) (Some n) (last n))) is)
+
+-- the page's cells after one more record
+pub cells_on : (s : Recorded) (page n count : ℕ) (r : GuestRec) (cells : List ℕ) → slice_get s.guest n ≡ Some r → IsPage cells (λ c. cell_after page c r (flat s n page c)) count → IsPage cells (flat s (n + 1) page) count
+cells_on s page n count r cells is on =
+    let up : suc n ≡ n + 1 = omega arith in
+    record {
+      size = on.size;
+      same = λ c lt. on.same c lt ∙ ap (λ o. changed (cell_after page c) o (flat s n page c)) (sym is) ∙ ap (λ k. flat s k page c) up;
+    }

@@ -10,6 +10,7 @@ pub mod Counted
 pub mod Subjects
 pub mod RecordValues
 pub mod Waits
+pub mod Kinds
 pub mod Explained
 pub mod Topics
 pub mod Concerned

@@ -5,6 +5,7 @@ use Rattle.page_facts.specs.PageFaults.{IsClean, IsFirstFault}
 use Rattle.audit_report.specs.declared.report.Report.{Report}
 use Rattle.audit_report.specs.declared.report.Report.TheVariants as report
 use Rattle.session_story.specs.Explained.{IsExplanation, IsFaultStory, IsShapeStory}
+use Rattle.session_story.specs.Kinds.{AreKinds}
 use Rattle.session_story.specs.Pages.{IsHandover, IsPageStory}
 use Rattle.session_story.specs.Places.{IsAtLineOf, HasNoRecord}
 use Rattle.session_story.specs.Subjects.{page_of}
@@ -24,11 +25,12 @@ pub record IsFirstFaultStory (s : Recorded) (page : ℕ) (f : FaultStory) : Type
   pub is_first : IsFirstFault s page f.fault
   pub story : IsFaultStory s f
 
--- the story of the page, with the story of its first fault, if it has one
+-- the story of the page, with the story of its first fault, if it has one, and all its faults by kind
 pub record IsPageTold (s : Recorded) (page : ℕ) (t : FullPageStory) : Type 0 where
   pub story : IsPageStory s page t.story
   pub handover : IsHandover s t.handover
   pub fault : MatchOption t.fault (IsClean s page) (IsFirstFaultStory s page)
+  pub kinds : AreKinds s page t.kinds
 
 -- the machine has a page of this number, and this is its story; or it has no such page
 abbrev pub IsToldOfPage : Recorded → ℕ → Option FullPageStory → Type 0

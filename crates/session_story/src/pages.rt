@@ -74,7 +74,7 @@ pub fn send_of(session: &Session, page: PageNo) -> Option<u32>
 }
 
 /// Returns the number, if it is below a place.
-fn below(place: u32, number: Option<u32>) -> Option<u32>
+pub(crate) fn below(place: u32, number: Option<u32>) -> Option<u32>
     ensures { result ≡ below place number }
 {
     match number {

@@ -5,16 +5,18 @@ ghost use Rattle.session_story.specs.Topics.{fault_in, fault_reported, page_in};
 
 use crate::explanations::Explanation;
 use crate::fault_stories::{FaultStory, ShapeStory};
-use crate::{Handover, PageStory};
+use crate::{Handover, Kinds, PageStory};
 use migration_types::LogName;
 
-/// The story of a page, with its fault.
+/// The story of a page, with its faults.
 #[derive(Clone, Copy)]
 pub struct FullPageStory {
     pub story: PageStory,
     pub handover: Handover,
     /// Its first fault, if it has one.
     pub fault: Option<FaultStory>,
+    /// All its faults, by kind.
+    pub kinds: Kinds,
 }
 
 /// A record, and the story of its page.

@@ -9,6 +9,7 @@ ghost use Rattle.session_story.specs.Topics.{IsFirstFaultStory, IsPageTold, IsSh
 
 use crate::explaining::explain;
 use crate::faults::{shape_at, story_of_fault};
+use crate::kinds::kinds_of;
 use crate::{
     FaultStory, FullPageStory, LineStory, PageStory, ShapeStory, TopicStory, handover_of, page_of,
     record_on, story_of,
@@ -35,7 +36,7 @@ fn first_fault_of(
     }
 }
 
-/// Returns the story of a page, with its fault.
+/// Returns the story of a page, with its faults.
 fn page_told(
     alloc: Global,
     session: &Session,
@@ -48,10 +49,12 @@ fn page_told(
 {
     let story = story_of(alloc, session, page)?;
     let fault = first_fault_of(alloc, session, report, &story)?;
+    let kinds = kinds_of(alloc, session, &story)?;
     Ok(FullPageStory {
         story,
         handover: handover_of(session),
         fault,
+        kinds,
     })
 }
 

@@ -25,7 +25,11 @@ pub struct CellValue {
 }
 
 /// Returns the values that a page begins with, cell 0 first. Fails only if memory runs out.
-fn cells_at_start(alloc: Global, session: &Session, page: PageNo) -> Result<Vec<u64>, AllocError>
+pub(crate) fn cells_at_start(
+    alloc: Global,
+    session: &Session,
+    page: PageNo,
+) -> Result<Vec<u64>, AllocError>
     requires { page < session.now.geometry.pages }
     ensures { IfOk result (λ cells. IsPage cells.items (initial session.now.init page) session.now.geometry.cells) }
 {
@@ -63,7 +67,7 @@ fn write(cells: &mut Vec<u64>, cell: u16, value: u64)
 }
 
 /// Changes a page's cells as one machine does at this record of the guest.
-fn change(cells: &mut Vec<u64>, page: PageNo, rec: &GuestRec)
+pub(crate) fn change(cells: &mut Vec<u64>, page: PageNo, rec: &GuestRec)
     ensures { (values : ℕ → ℕ) (count : ℕ) → IsPage cells.old.items values count → IsPage cells.new.items (λ c. cell_after page c rec.now (values c)) count }
 {
     match *rec {
@@ -88,7 +92,7 @@ fn change(cells: &mut Vec<u64>, page: PageNo, rec: &GuestRec)
 
 /// Returns the values that a page has on one machine that never moved, before this record of the guest, cell 0 first.
 /// Fails only if memory runs out.
-fn cells_before(
+pub(crate) fn cells_before(
     alloc: Global,
     session: &Session,
     page: PageNo,

@@ -1,8 +1,9 @@
 -- The sentences of stories: which, in which order, about which records, and with which numbers.
 use Rattle.std.specs.Prelude.{ℕ, Bool, true, false, not, ◌==◌, ◌+◌, ◌&&◌, ◌||◌, nat_lt, is_some, List, [], ◌∷◌, ◌++◌, Option, Some, None, length, slice_get, if◌then◌else◌}
+use Rattle.std.specs.List.{flat_map}
 use Rattle.std.specs.Option.{option_map}
 use Rattle.migration_types.specs.declared.records.LogName.{LogName}
-use Rattle.migration_types.specs.declared.records.LogName.TheVariants.{Guest, Link, Lane, Source, Pager}
+use Rattle.migration_types.specs.declared.records.LogName.TheVariants.{Link, Lane, Source, Pager}
 use Rattle.migration_types.specs.declared.records.SourceRec.{SourceRec}
 use Rattle.migration_types.specs.declared.records.SourceRec.TheVariants.{Again}
 use Rattle.migration_types.specs.declared.records.PagerRec.{PagerRec}
@@ -16,11 +17,13 @@ use Rattle.audit_model.specs.declared.reasons.PageReason.TheVariants as page
 use Rattle.audit_model.specs.declared.reasons.ShapeReason.{ShapeReason}
 use Rattle.audit_model.specs.declared.reasons.ShapeReason.TheVariants as shape
 use Rattle.audit_model.specs.Names.{if_there, same_log}
+use Rattle.audit_model.specs.Reasons.{page_reasons}
 use Rattle.audit_model.specs.Shape.{delivery, passes}
 use Rattle.page_facts.specs.Tables.{first_before}
 use Rattle.audit_report.specs.declared.report.Report.{Report}
 use Rattle.audit_report.specs.declared.report.Report.TheVariants as report
 use Rattle.session_story.specs.Causes.{came_to, cause_by}
+use Rattle.session_story.specs.Kinds.{in_all, tally_of}
 use Rattle.session_story.specs.Named.{named_by}
 use Rattle.session_story.specs.Concerned.{resumed_by}
 use Rattle.session_story.specs.Pages.{is_access_after}
@@ -34,9 +37,11 @@ use Rattle.session_story.specs.declared.explanations.Explanation.TheVariants as 
 use Rattle.session_story.specs.declared.fault_stories.PageCause.{PageCause}
 use Rattle.session_story.specs.declared.fault_stories.PageCause.TheVariants.{Sent, Placed, Zeroed, Again as PlacedAgain, Over as PlacedOver, Early as UsedEarly, Unplaced, Lost, Unrecorded}
 use Rattle.session_story.specs.declared.fault_stories.Detail.{Detail}
-use Rattle.session_story.specs.declared.fault_stories.Detail.TheVariants.{Instead, Seen, Other, Plain}
+use Rattle.session_story.specs.declared.fault_stories.Detail.TheVariants.{Instead, Seen, Other}
 use Rattle.session_story.specs.declared.fault_stories.FaultStory.{FaultStory}
 use Rattle.session_story.specs.declared.fault_stories.ShapeStory.{ShapeStory}
+use Rattle.session_story.specs.declared.kinds.Kinds.{Kinds}
+use Rattle.session_story.specs.declared.kinds.Tally.{Tally}
 use Rattle.session_story.specs.declared.looks.Look.{Look}
 use Rattle.session_story.specs.declared.pages.Handover.{Handover}
 use Rattle.session_story.specs.declared.pages.PageStory.{PageStory}
@@ -279,12 +284,23 @@ unfoldable pub first_fault_told : Recorded → Report → Option FaultStory → 
 first_fault_told s r None = []
 first_fault_told s r (Some f) = fault_told s f ++ listed (shown_of r f)
 
+-- the faults of a page for a reason, if there are some
+abbrev pub kind_of : PageReason → Tally → Option Sentence
+kind_of reason t = option_map (λ first. say.FaultsFor reason t.count first) t.first
+
+abbrev pub kind_told : Kinds → PageReason → List Sentence
+kind_told k reason = listed (kind_of reason (tally_of reason k))
+
+-- all faults of a page by kind, if there are several
+unfoldable pub kinds_told : ℕ → Kinds → List Sentence
+kinds_told page k = if nat_lt 1 (in_all k) then say.Faults page (in_all k) ∷ [] ++ flat_map (kind_told k) page_reasons else []
+
 abbrev pub verdict_of : FullPageStory → Sentence
 verdict_of t = say.Verdict t.story.page (is_some t.fault)
 
 -- the story of a page
 unfoldable pub page_told : Recorded → Report → FullPageStory → List Sentence
-page_told s r t = verdict_of t ∷ [] ++ first_fault_told s r t.fault ++ story_told s t.story t.handover
+page_told s r t = verdict_of t ∷ [] ++ first_fault_told s r t.fault ++ kinds_told t.story.page t.kinds ++ story_told s t.story t.handover
 
 unfoldable pub page_topic : Recorded → Report → ℕ → Option FullPageStory → List Sentence
 page_topic s r number None = say.NoPage number s.geometry.pages ∷ []

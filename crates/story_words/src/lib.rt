@@ -4,6 +4,7 @@
 mod counts;
 mod english;
 mod faults;
+mod kinds;
 mod knots;
 mod lacks;
 mod listing;

@@ -75,6 +75,17 @@ pub enum Sentence {
     ShownOrder(PageReason),
     /// This many other pages have a fault.
     MoreFaulty(usize),
+    /// This page has this many faults in all.
+    Faults {
+        page: PageNo,
+        count: u64,
+    },
+    /// This many of them are for this reason, and this record is the first.
+    FaultsFor {
+        reason: PageReason,
+        count: u32,
+        first: u32,
+    },
 
     // ---- a fault of a record's shape
     /// This record does not have the right shape.
@@ -268,6 +279,12 @@ impl<L: Lines> Teller<'_, L> {
             Sentence::EveryOrder(reason) => out.push_str(faults::in_every_order(reason)),
             Sentence::ShownOrder(reason) => out.push_str(faults::in_shown_order(reason)),
             Sentence::MoreFaulty(more) => faults::push_more(out, more),
+            Sentence::Faults { page, count } => faults::push_in_all(out, page, count),
+            Sentence::FaultsFor {
+                reason,
+                count,
+                first,
+            } => self.push_kind(out, reason, count, first),
             Sentence::Misshapen(name) => self.push_misshapen(out, name),
             Sentence::OutOfPhase { place, handover } => self.push_phase(out, place, handover),
             Sentence::Names { name, named } => self.push_names(out, name, named),

@@ -6,6 +6,7 @@ ghost use Rattle.story_words.specs.Sentences.{explained_first, explained_told, f
 use crate::Sentence;
 use crate::counts::push_counts;
 use crate::faults::{order_of, push_caused_first, push_fault};
+use crate::kinds::push_kinds;
 use crate::knots::push_knot;
 use crate::listing::push_if;
 use crate::pages::push_story;
@@ -127,6 +128,7 @@ fn push_page(
 {
     out.extend_from_slice(&[verdict_of(page)])?;
     push_first_fault(out, session, report, &page.fault)?;
+    push_kinds(out, page.story.page, &page.kinds)?;
     push_story(out, session, &page.story, &page.handover)
 }
 

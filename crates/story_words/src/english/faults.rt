@@ -4,7 +4,7 @@ use super::Teller;
 use audit_model::PageReason;
 use audit_report::Lines;
 use migration_types::{GuestRec, LogName, PageNo, PagerRec};
-use session_story::{CauseKind, Name};
+use session_story::{CauseKind, Name, log_of};
 use std::alloc::AllocError;
 
 pub(crate) const AT_SOURCE: &str =
@@ -84,7 +84,41 @@ pub(crate) fn push_more(out: &mut String, more: usize) -> Result<(), AllocError>
     }
 }
 
+/// Appends how many faults a page has in all.
+pub(crate) fn push_in_all(out: &mut String, page: PageNo, count: u64) -> Result<(), AllocError> {
+    let page = page.number();
+    write!(out, "Page {page} has {count} faults in all:")
+}
+
+/// Returns what the faults for a reason are.
+fn what_is_wrong(reason: PageReason) -> &'static str {
+    match reason {
+        PageReason::Read => "wrong reads",
+        PageReason::Early => "early uses",
+        PageReason::Given => "sendings although it is released",
+        PageReason::Stale => "sendings of other contents",
+        PageReason::Twice => "further placements",
+        PageReason::Altered => "placements of other contents",
+        PageReason::Unfit => "placements as zeros",
+        PageReason::Over => "placements over a release",
+    }
+}
+
 impl<L: Lines> Teller<'_, L> {
+    /// Appends how many faults a page has for a reason, and where the first of them is.
+    pub(crate) fn push_kind(
+        &self,
+        out: &mut String,
+        reason: PageReason,
+        count: u32,
+        first: u32,
+    ) -> Result<(), AllocError> {
+        let what = what_is_wrong(reason);
+        let where_is = if count == 1 { "at" } else { "the first at" };
+        write!(out, "  {what}: {count}, {where_is} ")?;
+        self.push_place(out, (log_of(reason), first))
+    }
+
     /// Appends which record is wrong.
     pub(crate) fn push_wrong(&self, out: &mut String, name: Name) -> Result<(), AllocError> {
         self.push_of_record(out, " is wrong", name)
