@@ -1,7 +1,7 @@
 """Uses the program as a hostile surrounding would: texts, memory, reads and writes, sizes.
 
 Texts of each kind are cut after each byte, and have each byte changed and a byte more before each; numbers have thousands of
-digits, are what a reader of 32 or 64 bits would take for the right one, or stand at a limit. A quarter of these is tried, the same in each
+digits, are what a reader of 32 or 64 bits would take for the right one, or stand at a limit. An eighth of these is tried, the same in each
 run. Each answer is compared with
 text_judge.py, and, where the text is one, with report_model.py, check_model.py, steps_model.py or what the program says of its
 own answer; and of a text that is refused one line of plain words has to say why, and what it tells as expected must not be
@@ -355,7 +355,7 @@ def judged_texts(is_all):
         if kind != "certificate":
             # (test_changed_certificates.py does this to certificates)
             cases.update(dict.fromkeys(cut_and_changed(text, changes, more)))
-        chosen = cases if is_all else random.Random(text).sample([*cases], len(cases) // 4)
+        chosen = cases if is_all else random.Random(text).sample([*cases], len(cases) // 8)
         yield from ((kind, case, others) for case in chosen)
     yield from (("script", script, {"events": ALL_EVENTS}) for script in odd_lanes())
 
@@ -834,7 +834,7 @@ def test_refused(program, room, pool, is_all):
             right(wrong)
 
 
-@pytest.mark.cases(12900)
+@pytest.mark.cases(6500)
 def test_texts(pool, is_all):
     for wrong in pool.map(misjudged, judged_texts(is_all), chunksize=50):
         right(wrong)
