@@ -42,8 +42,8 @@ def program_of(test):
 
 
 def run_in_fork(words, tree, said, most):
-    """Has a fork of this process, which has read pytest and the modules of tests, run them with these words. Another tree's are read anew. What
-    a test runs may take so many seconds of processor."""
+    """Has a fork of this process, which has read pytest and the modules of tests, run them with these words. Another tree's modules are read anew.
+    What a test runs may take so many seconds of processor."""
     child = os.fork()
     if child:
         return child
@@ -57,7 +57,9 @@ def run_in_fork(words, tree, said, most):
         os.environ.pop("PYTEST_XDIST_WORKER", None)
         if tree != TOP:
             os.chdir(tree)
-            os.execv(sys.executable, [sys.executable, "-m", "pytest", *words])
+            sys.path[:] = [tree + it.removeprefix(TOP) if it.startswith(TOP) else it for it in sys.path]
+            for name in [name for name, it in sys.modules.items() if (getattr(it, "__file__", None) or "").startswith(f"{TOP}/")]:
+                del sys.modules[name]
         # (this process may take longer: what it runs has no handler)
         signal.signal(signal.SIGXCPU, lambda *_: None)
         resource.setrlimit(resource.RLIMIT_CPU, (most, resource.getrlimit(resource.RLIMIT_CPU)[1]))
