@@ -24,15 +24,19 @@ def sources(name):
     return sorted(f"{CALLS}/{name}/{it}" for it in os.listdir(f"{CALLS}/{name}"))
 
 
-def modules_with_tests(name):
-    """How many tests each module of a crate has that has any, by its path in the program."""
+def tests_of(name):
+    """The tests of each module of a crate that has any, by the module's path in the program."""
     found = {}
     for source in sources(name):
         module = os.path.basename(source).removesuffix(".rs")
         with open(source, encoding="utf-8") as file:
-            count = len(re.findall(r"(?m)^\s*#\[test\]", file.read()))
-        if count:
-            found[name if module == "lib" else f"{name}::{module}"] = count
+            text = file.read()
+        tests = re.findall(r"(?m)^#\[test\]\nfn (\w+)\(rt: HostRuntime\)", text)
+        if len(tests) != text.count("#[test]"):
+            raise ValueError(f"{source} has a test of another form")
+        if tests:
+            path = name if module == "lib" else f"{name}::{module}"
+            found[path] = [f"{path}::{test}" for test in tests]
     return found
 
 
@@ -41,23 +45,55 @@ def copied(source, folder):
     return f"{folder}/src/{os.path.basename(source).removesuffix('.rs')}.rt"
 
 
+# What its main function alone may do, what the program does first, and how it runs a test.
+MAY = ("std::process::Abort + std::thread::Threads + std::sync::Wait + Sync"
+       " + std::net::Net<Listener = std::net::TcpListener, Stream = std::net::TcpStream>")
+WORDS = "    let words = words.as_slice();\n"
+ASKED = """    if words.len() == 3 && words[1] == "calls" {
+        return run_test(words[2], rt, &rt);
+    }
+"""
+RUN = """
+// Runs the test of this name.
+fn run_test<M: {}>(name: &str, rt: HostRuntime, main: &M) -> ExitCode {{
+{}    ExitCode::from(2)
+}}
+"""
+
+
+def called(text):
+    """A source of tests as a module of the program, whose main function calls each test and has to hand it what only that function may do."""
+    text = re.sub(r"(?m)^( *)#\[(?:test|cfg\(test\))\]\n *", r"\1pub ", text)
+    text = re.sub(r"(?m)^(pub fn \w+)\(rt: HostRuntime\)", rf"\1<M: {MAY}>(rt: HostRuntime, main: &M)", text)
+    return re.sub(r"(\bassert\w*!\()rt\b|&rt\b(?!\.)", r"\1main", text)
+
+
 def join_to(room):
-    """Makes one crate, `calls`, of the crates of tests, each a module of it, beside the copies of the others."""
-    folder, lines = f"{room}/crates/calls", listed()
-    os.makedirs(f"{folder}/src")
+    """Makes the crates of tests modules of the copy of the program: by the words `calls NAME` it runs the test of this name."""
+    top, lines = f"{room}/crates/postcopy/src", listed()
     for name in lines:
-        os.makedirs(f"{folder}/src/{name}")
+        os.makedirs(f"{top}/{name}")
         for source in sources(name):
             module = os.path.basename(source).removesuffix(".rs")
             with open(source, encoding="utf-8") as file:
                 text = file.read().replace("crate::", f"crate::{name}::")
-            with open(f"{folder}/src/{name}.rt" if module == "lib" else f"{folder}/src/{name}/{module}.rt", "w", encoding="utf-8") as file:
-                file.write(text)
-    with open(f"{folder}/src/lib.rt", "w", encoding="utf-8") as file:
-        file.write("//! The tests of the crates' calls.\n\n" + "".join(f"mod {name};\n" for name in sorted(lines)))
+            with open(f"{top}/{name}.rt" if module == "lib" else f"{top}/{name}/{module}.rt", "w", encoding="utf-8") as file:
+                file.write(called(text))
+    with open(f"{top}/main.rt", encoding="utf-8") as file:
+        text = file.read()
+    if text.count(WORDS) != 1:
+        raise ValueError("the program's main function is another")
+    tests = [test for name in lines for some in tests_of(name).values() for test in some]
+    arms = "".join(f'    if name == "{it}" {{\n        return {it}(rt, main).report(&rt);\n    }}\n' for it in tests)
+    text = text.replace(WORDS, WORDS + ASKED).replace("use std::process::ExitCode;", "use std::process::{ExitCode, Termination};")
+    with open(file.name, "w", encoding="utf-8") as file:
+        file.write(text + RUN.format(MAY, arms) + "".join(f"mod {name};\n" for name in sorted(lines)))
     needed = {it for line in lines.values() for it in line.partition(":")[2].split()}
-    with open(f"{room}/crates.txt", "a", encoding="utf-8") as file:
-        file.write(f"calls: {' '.join(sorted(needed))}\n")
+    with open(f"{room}/crates.txt", encoding="utf-8") as file:
+        text = file.read()
+    own = re.search("(?m)^postcopy: (.*)$", text)
+    with open(file.name, "w", encoding="utf-8") as file:
+        file.write(text.replace(own[0], f"postcopy: {' '.join(sorted({*own[1].split(), *needed}))}"))
 
 
 def copy_to(room, lines=()):

@@ -94,11 +94,11 @@ class Faults:
                 self.tests.same(f"{what}, cut: what is said", f"session: {line}\n" in ran.stderr.replace(folder, "FOLDER"), True)
 
     def run(self):
+        self.of_two_recordings()
         self.of_whole_ones()
         self.of_limits()
         self.of_lost_files()
         self.of_slips()
-        self.of_two_recordings()
         self.of_words()
         self.of_machines()
         self.of_lanes()

@@ -5,36 +5,31 @@ a test says nothing more of what it tests. So the crates of tests stand here, in
 that 'rt ci' proves. 'rt ci' refuses a file NAME.rt that it does not read, so these end in '.rs'. tests/calls/crates.list
 names each with what it depends on, in the form of crates.txt.
 
-They are compiled as the modules of one program, which has the planted bodies too, each behind its number (planted_programs.py). It runs one
-test at a time, by its name, and has to have as many as there are functions marked #[test] in the sources. test_refused_calls.py runs those of
-refused_calls.
+They are compiled as modules of the program that has the planted bodies too, each behind its number (planted_programs.py). By the words
+`calls NAME` it runs the function of this name that is marked #[test] in the sources. test_refused_calls.py runs those of refused_calls.
 """
 import os
-import re
 import subprocess
 
 import cases
 import pytest
-from call_crates import CALLS, listed, modules_with_tests
+from call_crates import CALLS, listed, tests_of
 from cases import count, each
 from planted_programs import program_with_bodies
 
 # How long one test may take, in seconds, on a slow machine that other work uses too, and where a wrong body may wait for ever. Most end
 # within one.
 LIMIT, SHORT_LIMIT = 900, 60
-MODULES = {module: count for name in listed() if name != "refused_calls" for module, count in modules_with_tests(name).items()}
+MODULES = {module: tests for name in listed() if name != "refused_calls" for module, tests in tests_of(name).items()}
 
 pytestmark = [pytest.mark.toolchain, pytest.mark.slow, pytest.mark.first, pytest.mark.xdist_group("calls")]
 
 
 @pytest.mark.parametrize("module", [pytest.param(it, id=it.replace("::", "-")) for it in MODULES])
 def test_calls(made_once, pytestconfig, module):
-    program = pytestconfig.getoption("--calls") or program_with_bodies(made_once, "calls")
-    told = subprocess.run([program, "--list"], stdin=subprocess.DEVNULL, stdout=subprocess.PIPE, text=True).stdout
-    tests = re.findall(rf"^({module}::\w+): test$", told, re.M)
-    assert len(tests) == MODULES[module]
-    for test in each(tests):
-        ran = subprocess.run([program, test], stdin=subprocess.DEVNULL, stdout=subprocess.PIPE, stderr=subprocess.STDOUT, errors="replace",
+    program = pytestconfig.getoption("--calls") or program_with_bodies(made_once)
+    for test in each(MODULES[module]):
+        ran = subprocess.run([program, "calls", test], stdin=subprocess.DEVNULL, stdout=subprocess.PIPE, stderr=subprocess.STDOUT, errors="replace",
                              timeout=SHORT_LIMIT if cases.ends_at_first else LIMIT)
         count(ran.returncode == 0, f"{test}: {ran.stdout[-3000:]}")
 

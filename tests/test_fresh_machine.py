@@ -1,8 +1,9 @@
 """What the README shows on a fresh Debian, and tests/quick, which are green there, and install nothing: for the superuser and for another
 user, in a clone and in an unpacked archive.
 
-The machine has no network, no git, no compiler, and besides what each Debian has only pytest and xdist. All quick tests are run once, and
-with --all four times. In the other machines a few of them are run, which would install something, or go by who runs them.
+The machine has no network, no git, no compiler, and besides what each Debian has only pytest and xdist. All quick tests are run once, of each
+the first cases, and with --all four times to their ends. In the other machines a few of them are run, which would install something, or go by who
+runs them.
 """
 import os
 import subprocess
@@ -21,6 +22,7 @@ from roots import Missing, Root, make, path
 TOP = os.path.dirname(os.path.dirname(os.path.abspath(__file__)))
 ROOT = Root("bookworm-tests", "bookworm", ("python3", "python3-pytest", "python3-pytest-xdist"))
 SOMEBODY = 1000
+FIRST_CASES = "tests/quick --up-to 10"
 FEW = "tests/quick tests/test_gate.py tests/test_release.py -k 'gate or test_version or test_man_pages or test_removal_without_a_right'"
 NOT_RUN = {"tests/run": "it is the gate", "tests/quick": "it stands behind the others, perhaps with fewer tests"}
 
@@ -73,8 +75,8 @@ def without_modules(machine):
 @pytest.mark.parametrize("user", (0, SOMEBODY), ids=("superuser", "somebody"))
 @pytest.mark.parametrize("source", ("clone", "archive"))
 def test_fresh_machine(root, sources, source, user, pytestconfig):
-    is_whole = pytestconfig.getoption("--all") or (source, user) == ("archive", SOMEBODY)
-    quick, workers = ("tests/quick", "2") if is_whole else (FEW, "1")
+    is_all = pytestconfig.getoption("--all")
+    quick, workers = ("tests/quick", "2") if is_all else (FIRST_CASES, "2") if (source, user) == ("archive", SOMEBODY) else (FEW, "1")
     blocks = [(command, shown) for command, shown, _ in commands_of(read("README.md")) if command not in NOT_RUN]
 
     def machine(*commands):

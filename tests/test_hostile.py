@@ -1,7 +1,7 @@
 """Uses the program as a hostile surrounding would: texts, memory, reads and writes, sizes.
 
 Texts of each kind are cut after each byte, and have each byte changed and a byte more before each; numbers have thousands of
-digits, are what a reader of 32 or 64 bits would take for the right one, or stand at a limit. A quarter of these is tried, the same in each
+digits, are what a reader of 32 or 64 bits would take for the right one, or stand at a limit. An eighth of these is tried, the same in each
 run. Each answer is compared with
 text_judge.py, and, where the text is one, with report_model.py, check_model.py, steps_model.py or what the program says of its
 own answer; and of a text that is refused one line of plain words has to say why, and what it tells as expected must not be
@@ -355,7 +355,7 @@ def judged_texts(is_all):
         if kind != "certificate":
             # (test_changed_certificates.py does this to certificates)
             cases.update(dict.fromkeys(cut_and_changed(text, changes, more)))
-        chosen = cases if is_all else random.Random(text).sample([*cases], len(cases) // 4)
+        chosen = cases if is_all else random.Random(text).sample([*cases], len(cases) // 8)
         yield from ((kind, case, others) for case in chosen)
     yield from (("script", script, {"events": ALL_EVENTS}) for script in odd_lanes())
 
@@ -723,8 +723,8 @@ def long_line(program, words, front, byte, refusal):
 FULL = 2**20
 
 
-def full_logs(version):
-    """A session of this version whose logs are all full, and runs of it, all but one of a single record."""
+def full_logs(version, full=FULL):
+    """A session of this version whose logs are all full, or have so many records, and runs of it, all but one of a single record."""
     records = {
         "guest": (b"halt\nresume 1\n", b"miss 0 0\n", 2),
         "source": (b"halted 0\nstate\n", b"again 1\n", 2),
@@ -735,10 +735,10 @@ def full_logs(version):
     session, runs = f"postcopy-session {version}\npages 1\ncells 1\ninit 0\n".encode(), ""
     for log in logs_of(version):
         first, more, count = records[log]
-        session += f"{log} {FULL}\n".encode() + first + more * (FULL - count)
+        session += f"{log} {full}\n".encode() + first + more * (full - count)
     links = "".join(f"run {log} 1\n" for log in logs_of(version)[2:])
     first = "run guest 1\nrun source 2\n" + links * 2 + "run guest 1\n"
-    runs = first + f"run source 1\n{links}run guest 1\n" * (FULL - 2)
+    runs = first + f"run source 1\n{links}run guest 1\n" * (full - 2)
     return session + b"end\n", runs.encode()
 
 
@@ -751,8 +751,8 @@ def greatest_sizes(program, version):
     with open(full, "wb") as file:
         file.write(session)
     past = f"-:{count + 5}: the run takes link {FULL}, and the link's log has {FULL} records (0 to {FULL - 1})\n"
-    # (its one page was owed, and never came)
-    noted = f"{full}: {note(SessionText(session.decode()))}\n".encode()
+    # (its one page was owed, and never came, however many records there are)
+    noted = f"{full}: {note(SessionText(full_logs(version, 4)[0].decode()))}\n".encode()
     left = f"-:{count + 4}: no run takes the session's line {FULL + 5} (guest {FULL - 1})\n"
     tries = (
         (f"check {full} -", entry + f"runs {count}\n".encode() + runs + b"end\n", (0, b"yes\n", noted)),
@@ -834,7 +834,7 @@ def test_refused(program, room, pool, is_all):
             right(wrong)
 
 
-@pytest.mark.cases(12900)
+@pytest.mark.cases(6500)
 def test_texts(pool, is_all):
     for wrong in pool.map(misjudged, judged_texts(is_all), chunksize=50):
         right(wrong)

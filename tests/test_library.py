@@ -210,8 +210,8 @@ def asked(found):
 
 
 def topics(found):
-    """What is asked besides, of the session of each example of `audit`."""
-    return [it for _, words, _, _ in found if words[0] == "audit" for it in topics_of(words[1])]
+    """What is asked besides, of the session of each example of `audit`: of one this, of the next that."""
+    return [it for _, words, _, _ in found if words[0] == "audit" for it in topics_of(words[1])][::4]
 
 
 def several(found):
@@ -718,7 +718,7 @@ def test_languages(postcopy, program):
 
 
 @pytest.mark.slow
-@pytest.mark.cases(3000)
+@pytest.mark.cases(2800)
 def test_from_c(postcopy, program, found, room):
     from_c = list(run_from_c(found, room))
     refusals_at = len(found) + len(EMPTY)

@@ -11,12 +11,14 @@ Where a script has a lane, that brings the pages that were pushed, each of them 
 the page at the target, and the link all else; some of them are taken from the lane; and `audit` says that the session is clean.
 Over a link that loses and repeats nothing, the pager says at most twice that all is there: once, and once more if it looks just
 before the source learns of it. The connection of a link over TCP is one of the loopback address, which no other machine reaches.
-A guest whose log has no room is answered by log-full, at the source and at the target. Nothing waits for ever: each run ends within two minutes.
+A guest whose log has no room is answered by log-full, at the source and at the target. Nothing waits for ever: each run ends within two minutes,
+beside the time for which its threads waited for a processor.
 """
 import os
 import random
 import re
 import subprocess
+import time
 
 import cases
 import pytest
@@ -29,8 +31,36 @@ TOP = os.path.dirname(os.path.dirname(os.path.abspath(__file__)))
 
 
 def seconds():
-    """How long a run may take, by the clock. One that waits for ever is waited for less where the test ends at its first fault."""
+    """How long a run may take. One that waits for ever is waited for less where the test ends at its first fault."""
     return 20 if cases.ends_at_first else 120
+
+
+def starved(number):
+    """For how many seconds the threads that a process has now have waited for a processor, in all: none where the system does not say."""
+    waited = 0
+    try:
+        for thread in os.listdir(f"/proc/{number}/task"):
+            with open(f"/proc/{number}/task/{thread}/schedstat", encoding="ascii") as file:
+                waited += int(file.read().split()[1])
+    except OSError:
+        pass
+    return waited / 1e9
+
+
+def ended(words, given, **how):
+    """What came of a program, as subprocess.run tells it. The time for which it waited for a processor is none of its own: on a machine that others
+    use too it may take longer."""
+    begun, longest = time.monotonic(), 0
+    with subprocess.Popen(words, stdin=subprocess.PIPE, stdout=subprocess.PIPE, stderr=subprocess.PIPE, **how) as process:
+        while True:
+            try:
+                told = process.communicate(given, timeout=1)
+                return subprocess.CompletedProcess(words, process.returncode, *told)
+            except subprocess.TimeoutExpired:
+                given, longest = None, max(longest, starved(process.pid))
+                if time.monotonic() - begun - longest > seconds():
+                    process.kill()
+                    raise
 
 
 # Two virtual processors that wait for a page each, and two that wait for the same one.
@@ -103,7 +133,7 @@ def full_script(is_after):
 def ran(program, words, text):
     """What the program writes, to both outputs, and its status; or it took too long."""
     try:
-        done = subprocess.run([program, *words], input=text.encode(), capture_output=True, timeout=seconds())
+        done = ended([program, *words], text.encode())
     except subprocess.TimeoutExpired:
         return "", f"it does not end within {seconds()} seconds", None
     return done.stdout.decode("latin-1"), done.stderr.decode("latin-1"), done.returncode
@@ -257,8 +287,7 @@ def is_carried_wrongly(program):
         return None, "there is no `unshare` here"
     for worked in (WORKED[0], PUSHED[0]):
         text = worked.replace(" / ", "\n") + "\n"
-        done = [subprocess.run([*alone, program, "migrate", "-", "--link", link], input=text.encode(), capture_output=True, timeout=seconds())
-                for link in ("memory", "tcp")]
+        done = [ended([*alone, program, "migrate", "-", "--link", link], text.encode()) for link in ("memory", "tcp")]
         if (done[0].returncode, done[0].stderr) != (0, b""):
             return "a link in memory wants a network", None
         if (done[1].returncode, done[1].stdout, done[1].stderr) != (3, b"", b"link\n"):
@@ -292,8 +321,8 @@ def addresses(program, cc, room):
     with open(f"{room}/bound.c", "w", encoding="ascii") as file:
         file.write(BOUND)
     subprocess.run([cc, "-shared", "-fPIC", "-o", f"{room}/bound.so", file.name, "-ldl"], check=True)
-    subprocess.run([program, "migrate", "--link", "tcp", "-"], input=WORKED[0].replace(" / ", "\n").encode() + b"\n", stdout=subprocess.DEVNULL, check=True,
-                   env={"LD_PRELOAD": f"{room}/bound.so", "BOUND": f"{room}/bound"}, timeout=seconds())
+    ended([program, "migrate", "--link", "tcp", "-"], WORKED[0].replace(" / ", "\n").encode() + b"\n",
+          env={"LD_PRELOAD": f"{room}/bound.so", "BOUND": f"{room}/bound"}).check_returncode()
     with open(f"{room}/bound", encoding="ascii") as file:
         return file.read().split()
 

@@ -115,6 +115,12 @@ def test_options(program, room):
                 tests.refused([command, *names, *other, *one])
             else:
                 tests.pair(command, one, other, names)
+
+
+@pytest.mark.quick
+@pytest.mark.cases(4)
+def test_several_sessions(program, room):
+    tests = Tests(program, room)
     tests.refused(["audit", *ALL, *SESSIONS])
     same("why several sessions clash", "several sessions" in tests.run("audit", *ALL, *SESSIONS)[2].split("\n")[0], True)
     lines = tests.run("audit", *SESSIONS)[:2]

@@ -3,7 +3,7 @@
 Of a test with a list of items (cases.each), the one that the body's line `item:` names is tried alone. Where that does not find it, the whole
 test is run, and the item that does is told, for that line.
 
-Nothing is proved. All bodies of crates stand in two programs, each behind its number (planted_programs.py), which are compiled before other
+Nothing is proved. All bodies of crates stand in one program, each behind its number (planted_programs.py), which is compiled before other
 tests run. Those of outside.edits are of files in no crate, such as a recorder's or a model's, and are put into a copy of the tree.
 
     tests/pytest -n auto --dist loadgroup tests/test_planted.py -k "NAME or NAME"     tries some alone
@@ -24,7 +24,7 @@ from planted_programs import BODIES, NUMBERS, program_with_bodies
 from switched import plant
 
 TOP = os.path.dirname(os.path.dirname(os.path.realpath(__file__)))
-# The modules of tests that run another program than `postcopy`.
+# The modules of tests that are given the program as that of the tests of calls.
 OF_CALLS = ("tests/test_calls.py", "tests/test_refused_calls.py")
 # Of a test that failed, the line that says so, and the one that says with which case, and of which item of its list.
 FAILED, CASE = re.compile("^FAILED .*$", re.M), re.compile(r"^case (\d+)(?: of item (\d+))? failed", re.M)
@@ -37,13 +37,9 @@ LIMIT, MOST, MOST_OF_REFUSED = 900, 30, 300
 pytestmark = [pytest.mark.toolchain, pytest.mark.slow]
 
 
-def program_of(test):
-    return "calls" if test.partition("::")[0] in OF_CALLS else "postcopy"
-
-
 def run_in_fork(words, tree, said, most):
-    """Has a fork of this process, which has read pytest and the modules of tests, run them with these words. Another tree's are read anew. What
-    a test runs may take so many seconds of processor."""
+    """Has a fork of this process, which has read pytest and the modules of tests, run them with these words. Another tree's modules are read anew.
+    What a test runs may take so many seconds of processor."""
     child = os.fork()
     if child:
         return child
@@ -57,7 +53,9 @@ def run_in_fork(words, tree, said, most):
         os.environ.pop("PYTEST_XDIST_WORKER", None)
         if tree != TOP:
             os.chdir(tree)
-            os.execv(sys.executable, [sys.executable, "-m", "pytest", *words])
+            sys.path[:] = [tree + it.removeprefix(TOP) if it.startswith(TOP) else it for it in sys.path]
+            for name in [name for name, it in sys.modules.items() if (getattr(it, "__file__", None) or "").startswith(f"{TOP}/")]:
+                del sys.modules[name]
         # (this process may take longer: what it runs has no handler)
         signal.signal(signal.SIGXCPU, lambda *_: None)
         resource.setrlimit(resource.RLIMIT_CPU, (most, resource.getrlimit(resource.RLIMIT_CPU)[1]))
@@ -84,7 +82,7 @@ def status_of(child):
 
 def run_test(test, tree, program, *part):
     """Runs a test of a tree, or a part of it, to its first case that fails: the status, and what was printed."""
-    words = ["-q", "--first", "-p", "no:cacheprovider", "-p", "no:xdist", f"--{'calls' if program_of(test) == 'calls' else 'program'}={program}", *part]
+    words = ["-q", "--first", "-p", "no:cacheprovider", "-p", "no:xdist", f"--{'calls' if test.partition('::')[0] in OF_CALLS else 'program'}={program}", *part]
     with tempfile.TemporaryFile() as said:
         seconds = MOST_OF_REFUSED if test.startswith("tests/test_refused_calls.py") else MOST
         status = status_of(run_in_fork([*words, f"{tree}/{test}"], tree, said, seconds))
@@ -135,9 +133,9 @@ def planted(name, tree):
 
 
 @pytest.mark.first
-@pytest.mark.xdist_group("postcopy with all bodies")
+@pytest.mark.xdist_group("calls")
 def test_program(made_once):
-    program_with_bodies(made_once, "postcopy")
+    program_with_bodies(made_once)
 
 
 def found_by(made_once, name, right, tree, program):
@@ -162,7 +160,7 @@ def found_by(made_once, name, right, tree, program):
 @pytest.mark.last
 @pytest.mark.parametrize("name", NUMBERS)
 def test_planted(made_once, room, record_property, name):
-    right, program = program_with_bodies(made_once, program_of(BODIES[name].test)), f"{room}/program"
+    right, program = program_with_bodies(made_once), f"{room}/program"
     plant(right, NUMBERS[name], program)
     record_property("told", found_by(made_once, name, right, TOP, program))
 

@@ -173,13 +173,13 @@ class Recorders:
         return ran.stdout
 
     def run(self, known):
+        self.of_all_memory()
         self.of_calls(known)
         self.of_threads()
         self.of_kills()
         self.of_limits()
         self.of_full_disks()
         self.of_refused_calls()
-        self.of_all_memory()
         self.of_hashes()
 
     def of_calls(self, known):
@@ -241,9 +241,9 @@ class Recorders:
 
     def of_threads_in(self, env):
         folder = self.folder()
-        self.run_c("threads", folder, "4", "60000", env=env)
+        self.run_c("threads", folder, "4", "20000", env=env)
         records = sorted((int(number), vcpu, int(last)) for text in lines_of(folder).values() for number, _, vcpu, _, _, last in (line.split() for line in records_of(text)))
-        self.tests.same("numbers of threads", [number for number, _, _ in records], list(range(240000)))
+        self.tests.same("numbers of threads", [number for number, _, _ in records], list(range(80000)))
         newest, is_chain = {}, True
         for number, vcpu, last in records:
             is_chain = is_chain and last == newest.get(vcpu, LOST)

@@ -41,6 +41,21 @@ LEAST = {
 }
 
 
+# Parts of them that find a planted body, each by itself.
+PARTS = {
+    "statuses": lambda tests, room: facts_test.of_statuses(tests),
+    "failing": lambda tests, room: campaign_test.of_a_recorder_that_fails(tests),
+    "link": folders_test.of_a_link,
+}
+
+
+@pytest.mark.cases(2)
+@pytest.mark.parametrize("part", PARTS)
+def test_part(program, monkeypatch, room, part):
+    monkeypatch.setenv("POSTCOPY", program)
+    PARTS[part](check.Tests(), room)
+
+
 @pytest.mark.parametrize("module", [pytest.param(it, marks=pytest.mark.cases(least), id=it.__name__) for it, least in LEAST.items()])
 def test_recorders(program, monkeypatch, module):
     monkeypatch.setenv("POSTCOPY", program)
