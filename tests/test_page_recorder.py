@@ -214,6 +214,15 @@ def test_twice(sides):
                         for name in os.listdir(sides.target) if name.startswith("pager.")), 1)
 
 
+def test_refused(sides):
+    """A page that comes twice, where post-copy breaks off by it: it is told."""
+    sides.run_target("twice=201", "die=402")
+    sides.run_source()
+    verdict = sides.judged()
+    same("verdict", (verdict.is_clean, verdict.refused, verdict.told[-1]),
+         (False, ("block 0 + 0xc9000",), "page 201, block 0 + 0xc9000: it came when it was there already, and was refused"))
+
+
 def test_shown(sides):
     """Shared memory that is shown by UFFDIO_CONTINUE, and a fault in it."""
     done = sides.run_target("show", "flip=637")
@@ -333,9 +342,13 @@ def test_log_without_its_end(sides, side, party):
     same("verdict", (verdict.word, verdict.is_whole, verdict.is_clean, "has no end" in verdict.told[0]), ("clean", False, False, True))
 
 
-def test_library_is_not_loaded(sides, capfd):
-    page_target.prepare(sides.target, KEY, False)
-    subprocess.run([sides.guarded, "target", "0"], check=True, capture_output=True)
+@pytest.mark.parametrize("library", [None, "{}.none"], ids=["not named", "wrong path"])
+def test_library_is_not_loaded(sides, library):
+    variables = page_target.prepare(sides.target, KEY, False)
+    path = variables.pop("LD_PRELOAD")
+    preloaded = {"LD_PRELOAD": library.format(path)} if library else {}
+    done = subprocess.run([sides.guarded, "target", "0"], env={**os.environ, **variables, **preloaded}, capture_output=True, text=True)
+    same("the process", (done.returncode, "cannot be preloaded" in done.stderr), (0, bool(library)))
     sides.run_source()
     with pytest.raises(build.Missing, match="nothing was recorded at the target"):
         sides.judged()
@@ -359,6 +372,46 @@ def test_secure_execution(sides):
             page_verdict.judged(folder, sides.source)
 
 
+def test_no_switch(sides):
+    """The library is there, and the migration ends in pre-copy: the process has tried userfaultfd, and guards nothing."""
+    done = sides.run_target("precopy")
+    same("the process", (done.returncode, "is not recorded" in done.stderr), (0, False))
+    sides.run_source()
+    with pytest.raises(build.Missing, match="nothing was recorded at the target: .* there was no post-copy"):
+        sides.judged()
+
+
+def test_userfaultfd_is_for_root(tmp_path):
+    """What the emulator's user lacks is told before anybody migrates: userfaultfd, the way to the folder, and room."""
+    with open("/proc/sys/vm/unprivileged_userfaultfd", encoding="ascii") as file:
+        is_for_root = file.read() == "0\n"
+    os.makedirs(f"{tmp_path}/closed/target")
+    os.chmod(f"{tmp_path}/closed", 0o700)
+    user = collections.namedtuple("User", "pw_name pw_uid")("emulator", os.geteuid() + 1000)
+    found = list(page_target.obstacles(f"{tmp_path}/closed/target", 1 << 60, user))
+    same("userfaultfd", sum("sysctl vm.unprivileged_userfaultfd=1" in line for line in found), is_for_root)
+    same("room", sum(" MiB are needed" in line for line in found), 1)
+    same("the way", sum(f"emulator cannot go through {tmp_path}/closed to" in line for line in found), 1)
+
+
+APPARMOR = "/usr/** r,", "  owner /var/{{lib,tmp}}/{0}/* rw,", "  /var/*/{0}/*.so m,", "  @{{PROC}}/@{{pid}}/smaps r,", "  owner @{{PROC}}/*/pagemap r,"
+
+
+@pytest.mark.parametrize("is_on, rules, lacks", [
+    ("N", [], []), ("Y", [0], ["{}/** rwm", "smaps,pagemap"]), ("Y", [0, 1], ["{}/** rwm", "smaps,pagemap"]), ("Y", [1, 2], ["smaps,pagemap"]), ("Y", [0, 1, 2, 3, 4], []), ("Y", [3, 4], ["{}/** rwm"]),
+    (None, [], []),
+], ids=str)
+def test_apparmor(tmp_path, is_on, rules, lacks):
+    """What no rule for emulators allows is told, with the line that would."""
+    os.makedirs(f"{tmp_path}/sys/module/apparmor/parameters")
+    os.makedirs(f"{tmp_path}/etc/apparmor.d/local/abstractions")
+    if is_on:
+        page_target.write(f"{tmp_path}/sys/module/apparmor/parameters/enabled", f"{is_on}\n")
+    page_target.write(f"{tmp_path}{page_target.RULES[1]}", "".join(f"{APPARMOR[rule].format('target')}\n" for rule in rules))
+    found = list(page_target.remarks("/var/tmp/target", tmp_path))
+    same("told", (len(found), [lack for lack in ("{}/** rwm", "smaps,pagemap") if lack.format("/var/tmp/target") in "".join(found)]), (bool(lacks), lacks))
+
+
 def test_block_that_is_added(sides):
     """A block that comes once others are guarded: nothing is recorded, and the process goes on."""
     done = sides.run_target("plug")
@@ -373,6 +426,49 @@ def test_process_of_another_guest(sides):
     sides.run_source(of=["plug"])
     with pytest.raises(build.Missing, match="different blocks of memory, of so many pages: target 600 40; source 600 40 8"):
         sides.judged()
+
+
+def test_process_of_a_guest_like_it(sides):
+    """Another guest with blocks of the same lengths: all pages but those of zeros are told."""
+    sides.run_target()
+    sides.run_source(of=["other"])
+    verdict = sides.judged()
+    same("verdict", (verdict.word, len(verdict.places)), ("faulty", PAGES // 4 * 3))
+
+
+@pytest.mark.parametrize("party, before", [("source", "send 9"), ("machine", "page 9"), ("pager", r"place 9 \d+")])
+def test_changed_bit(sides, party, before):
+    """A digit of a hash is other than it was written: the page is told, or the files are refused."""
+    sides.run_target()
+    sides.run_source()
+    paths = [f"{folder}/{name}" for folder in (sides.source, sides.target) for name in os.listdir(folder) if name.startswith(f"{party}.")]
+    count = 0
+    for path in paths:
+        with open(path, encoding="ascii") as file:
+            text, times = re.subn(rf"(?<= )({before} )(\w)", lambda match: match[1] + "01"[match[2] == "0"], file.read())
+        count += times
+        page_target.write(path, text)
+    same("changed", count, 1)
+    try:
+        verdict = sides.judged()
+    except build.Missing:
+        return
+    same("verdict", (verdict.is_clean, [place for place in verdict.places if place != "block 0 + 0x9000"]), (False, []))
+
+
+@pytest.mark.parametrize("side, name", [("source", "source"), ("source", "machine"), ("target", "pager"), ("source", "blocks"), ("target", "blocks")])
+def test_file_cut_short(sides, side, name):
+    """The longest file of a party ends in the middle of a line."""
+    sides.run_target()
+    sides.run_source()
+    folder = getattr(sides, side)
+    path = max((f"{folder}/{one}" for one in os.listdir(folder) if one.split(".")[0] == name), key=os.path.getsize)
+    os.truncate(path, os.path.getsize(path) // 2)
+    try:
+        verdict = sides.judged()
+    except build.Missing:
+        return
+    same("verdict", (verdict.is_whole, verdict.is_clean), (False, False))
 
 
 def test_another_key(sides):

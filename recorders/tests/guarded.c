@@ -1,7 +1,8 @@
 /*
  * A process with two blocks of memory like a QEMU's: 600 private pages, and 40 of a memory file. Its words say what it does.
  *
- *     guarded source ..     fills the pages, and waits for the end of standard input. With `give=P` it gives page P of the first block back
+ *     guarded source ..     fills the pages, and waits for the end of standard input. With `give=P` it gives page P of the first block back, and
+ *                           with `other` its pages hold what those of another guest would
  *     guarded target N ..   fills the first N pages of each block, at most 20 of the second, guards both by userfaultfd, puts the other pages in place, and takes the
  *                           guards away. Each further word is done once, with page P of all pages, the first block's first:
  *
@@ -11,10 +12,12 @@
  *         twice=P    it is put in place twice
  *         write=P    it is written to when all pages are there
  *         die=P      the process is killed before it
+ *         precopy    nothing is guarded: there is no switch
  *         plug       a third block comes: at the source at the beginning, and at the target once the others are guarded
  *         show       the second block's pages are put into the file, and shown two by two by UFFDIO_CONTINUE
  *
- * A page whose number is 3 more than a multiple of 4 is zeros. The last line tells which pages are absent in the end.
+ * As a QEMU does, the target first tries userfaultfd on a page of its own. A page whose number is 3 more than a multiple of 4 is zeros. The last
+ * line tells which pages are absent in the end.
  */
 #define _GNU_SOURCE
 #include <fcntl.h>
@@ -34,6 +37,7 @@ static const uint64_t pages_of[] = {600, 40};
 static char *memory[2], *other; /* `other` is a second mapping of the file */
 static const char *const *words;
 static int is_shown, uffd;
+static uint64_t is_other;
 
 static void check(int is_right, const char *what)
 {
@@ -59,7 +63,7 @@ static int is_zeros(long page)
 static void fill(char *at, long page)
 {
     for (uint64_t word = 0; word < PAGE / 8; word++)
-        ((uint64_t *)at)[word] = is_zeros(page) ? 0 : (uint64_t)page * 1000003 + word + 1;
+        ((uint64_t *)at)[word] = is_zeros(page) ? 0 : (uint64_t)page * 1000003 + word + 1 + is_other;
 }
 
 static void put(char *at, long page)
@@ -87,11 +91,28 @@ static struct uffdio_range plugged(void)
     return (struct uffdio_range){(uintptr_t)block, 8 * PAGE};
 }
 
-static void migrate(long left)
+static void open_userfaultfd(void)
 {
     struct uffdio_api api = {.api = UFFD_API, .features = is_shown ? UFFD_FEATURE_MINOR_SHMEM : 0};
     uffd = (int)syscall(SYS_userfaultfd, O_CLOEXEC | O_NONBLOCK);
     check(uffd >= 0 && ioctl(uffd, UFFDIO_API, &api) == 0, "userfaultfd");
+}
+
+static void try_userfaultfd(void)
+{
+    struct uffdio_register guard = {.mode = UFFDIO_REGISTER_MODE_MISSING};
+    guard.range = (struct uffdio_range){(uintptr_t)mmap(NULL, PAGE, PROT_READ | PROT_WRITE, MAP_PRIVATE | MAP_ANONYMOUS, -1, 0), PAGE};
+    open_userfaultfd();
+    check(ioctl(uffd, UFFDIO_REGISTER, &guard) == 0 && ioctl(uffd, UFFDIO_UNREGISTER, &guard.range) == 0, "a page of its own");
+    close(uffd);
+}
+
+static void migrate(long left)
+{
+    try_userfaultfd();
+    if (number("precopy") >= 0)
+        return;
+    open_userfaultfd();
     for (int block = 0; block < 2; block++) {
         uint64_t mode = is_shown && block ? UFFDIO_REGISTER_MODE_MINOR : UFFDIO_REGISTER_MODE_MISSING;
         struct uffdio_register guard = {{(uintptr_t)memory[block], pages_of[block] * PAGE}, mode, 0};
@@ -129,6 +150,7 @@ int main(int count, char **word)
     int file = memfd_create("block", MFD_CLOEXEC), is_source = count > 1 && !strcmp(word[1], "source");
     words = (const char *const *)word;
     is_shown = number("show") >= 0;
+    is_other = number("other") >= 0;
     check(file >= 0 && ftruncate(file, (off_t)(pages_of[1] * PAGE)) == 0, "memfd_create");
     char *room = mmap(NULL, 1000 * PAGE, PROT_NONE, MAP_PRIVATE | MAP_ANONYMOUS, -1, 0); /* with pages between the blocks, as QEMU leaves some */
     for (int block = 0; block < 2; block++) {
