@@ -50,6 +50,7 @@ class Settings(Plan):
 
 class Migration:
     is_asked = False  # whether the emulator was asked already if it can
+    is_booting = False  # a guest that is kept in a file
 
     def __init__(self, settings, folder, emulator, say):
         self.settings, self.folder, self.emulator, self.say = settings, folder, emulator, say
@@ -101,8 +102,8 @@ class Migration:
         with open(f"{path}.lock", "w", encoding="ascii") as lock:
             fcntl.flock(lock, fcntl.LOCK_EX)
             if not os.path.exists(path):
-                booting = self.start("source")
-                self.warm_up(self.is_warm)
+                booting, self.is_booting = self.start("source"), True
+                self.warm_up()
                 booting("migrate-set-parameters", **{"max-bandwidth": 0, "downtime-limit": LONGEST_DOWNTIME})
                 booting("migrate", uri=f"exec:cat > {shlex.quote(path)}.new")
                 has_ended = wait_until(lambda: self.stands("source") in ENDED, seconds=SECONDS) and self.stands("source") == "completed"
@@ -110,6 +111,7 @@ class Migration:
                 if not has_ended:
                     raise build.Missing(f"the guest cannot be kept in {path}")
                 os.rename(f"{path}.new", path)
+                self.is_booting = False
         return "-incoming", f"exec:cat {shlex.quote(path)}"
 
     def start(self, side, *extra, **environment):
@@ -160,7 +162,7 @@ class Migration:
                 qmp("migrate-set-parameters", **page_tls.parameters(settings.tls, end))
         source("migrate-set-parameters", **{"max-bandwidth": settings.bandwidth, "downtime-limit": 1})
         target("migrate-incoming", uri=f"unix:{self.room.name('migration')}")
-        self.warm_up(self.runs if settings.booted else self.is_warm)
+        self.warm_up()
         source("migrate", uri=f"unix:{self.way()}")
         wait_until(lambda: self.stands("source") not in ("none", "setup"))
         if settings.has_balloon:
@@ -186,19 +188,18 @@ class Migration:
             raise build.Missing("the guest's balloon does not move")
         self.say(f"the guest has given {before - left() >> 10} KiB of its memory back")
 
-    def warm_up(self, is_warm):
+    def warm_up(self):
         """Lets the guest run: the test guest until it has filled its pages, and Linux until it has booted."""
         time.sleep(self.settings.seconds)
-        if not self.settings.command and not wait_until(is_warm, pause=0.2, seconds=SECONDS):
+        if not self.settings.command and not wait_until(self.is_warm, pause=0.2, seconds=SECONDS):
             raise build.Missing("the guest does not come to its work")
-
-    def runs(self):
-        return self.machines["source"].stands()[1] == "running"
 
     def is_warm(self):
         path = f"{self.folder}/source.console"
         if self.machines["source"].stands()[1] == "internal-error":
             raise build.Missing("the guest has stopped by itself: this machine's KVM cannot run it")
+        if self.settings.booted and not self.is_booting:
+            return self.machines["source"].stands()[1] == "running"
         if not self.settings.is_linux:
             return os.path.getsize(path) > self.settings.pages * BYTES_OF_ACCESS
         with open(path, encoding="utf-8", errors="replace") as console:
