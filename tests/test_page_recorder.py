@@ -4,6 +4,7 @@ Most cases are of a process, recorders/tests/guarded.c, that has blocks of memor
 computed here once more, by its definition. The migrations are left out where QEMU is not there and may not be installed.
 """
 import collections
+import contextlib
 import json
 import os
 import re
@@ -639,17 +640,57 @@ def test_campaign(tmp_path):
     with_fault = {fault: [row for row, its in drawn if its == fault] for fault in page_migration.FAULTS}
     same("ways", {fault: {row["way"] for row in rows} for fault, rows in with_fault.items()}, {**dict.fromkeys(page_migration.FAULTS, {"plain", "preempt"}), "forget": {"cut"}})
     same("TLS", {row["TLS"] for rows in with_fault.values() for row in rows}, {"none"})
+    same("named faults", [fault for _, fault in page_campaign.drawn(5, 1, page_campaign.AXES, ("keep", "", "keep"))], ["keep", "", "keep", "keep", ""])
     row = {axis: values[0] for axis, values in page_campaign.AXES.items()}
-    words = [("", page_campaign.CLEAN), ("", "faulty, 1 pages, 0 put in; completed"), ("", page_campaign.FAILED), ("flip", page_campaign.TOLD), ("flip", "clean, 0 pages, 1 put in; completed"),
-             ("flip", page_campaign.NOT_PUT_IN), ("flip", f"{page_campaign.NOT_RECORDED}: why"), ("twice", page_campaign.FAILED)]
+    sizes = [("small", "test, TCG"), ("small", "Linux, TCG"), ("512 MiB", "Linux, TCG"), ("2 GiB", "test, KVM")]
+    same("MiB", [page_campaign.settings_of({**row, "size": size, "guest": guest}).ram for size, guest in sizes], [64, 160, 512, 2048])
+    words = [("", page_campaign.CLEAN), ("", "faulty, 1 pages, 0 put in; completed"), ("", page_campaign.FAILED), ("", page_campaign.GIVEN_BACK), ("flip", page_campaign.TOLD),
+             ("flip", "clean, 0 pages, 1 put in; completed"), ("flip", page_campaign.NOT_PUT_IN), ("flip", f"{page_campaign.NOT_RECORDED}: why"), ("twice", page_campaign.FAILED),
+             ("twice", page_campaign.REFUSED)]
     folder = f"{tmp_path}/{page_campaign.RESULTS}"
     for fault, word in words:
         page_campaign.write(folder, json.dumps(page_campaign.Result(row, fault, word, "QEMU 7.2.22", 3.4)._asdict()) + "\n", "a")
     table = page_campaign.table(page_campaign.results_of(tmp_path)).splitlines()
-    same("conditions", table[0], "8 migrations of QEMU 7.2.22, at a load of 3 to 3; 1 were not recorded:")
-    same("table", [line for line in table if re.match(r"\| (all|guest|flip|twice)", line)], [
-        *(f"| {part} | 1 of 3 clean, 1 not clean, and QEMU says so itself |" for part in ("all", "guest test, TCG")), "| flip: a bit of a page's first word is flipped | 1 of 2 told by its pages, and no other |",
-        "| twice: a page comes twice | 1 of 1 not clean, and QEMU says so itself |"])
+    same("conditions", table[0], "10 migrations of QEMU 7.2.22, at a load of 3 to 3; 1 were not recorded:")
+    same("table", [line for line in table if re.match(r"\| (all|size|flip|twice)", line)], [
+        *(f"| {part} | 1 of 4 clean, 1 not clean, and QEMU says so itself, 1 with pages that were given back once they had been sent |" for part in ("all", "size small")),
+        "| flip: a bit of a page's first word is flipped | 1 of 2 told by its pages, and no other |",
+        "| twice: a page comes twice | 1 of 2 told by its page, and QEMU says so itself; 1 of 2 not clean, and QEMU says so itself |"])
+
+
+class Moved:
+    """A migration that was made, with a fault in page 7."""
+    outcome = "source failed, target ended"
+
+    def __init__(self, *of):
+        pass
+
+    def run(self):
+        return self.outcome
+
+    def put_in(self):
+        return [7]
+
+
+SEVEN = "pc.ram + 0x7000"
+
+
+@pytest.mark.parametrize("fault, outcome, verdict, word", [
+    ("twice", Moved.outcome, dict(word="incomplete page 9", refused=(SEVEN,), places=("pc.ram + 0x9000",)), page_campaign.REFUSED),
+    ("twice", Moved.outcome, dict(word="incomplete page 9", refused=("pc.ram + 0x8000",)), page_campaign.FAILED),
+    ("keep", page_campaign.SILENT, dict(word="faulty", places=(SEVEN,)), page_campaign.TOLD),
+    ("flip", page_campaign.SILENT, dict(word="faulty", places=(SEVEN, "pc.ram + 0x9000")), "faulty, 2 pages, 1 put in; source completed, target completed"),
+    ("", page_campaign.SILENT, dict(word="faulty", places=(SEVEN,), nothing=1), page_campaign.GIVEN_BACK),
+    ("", page_campaign.SILENT, dict(word="faulty", places=(SEVEN, "pc.ram + 0x9000"), nothing=1), "faulty, 2 pages, 0 put in; source completed, target completed"),
+    ("", page_campaign.SILENT, dict(word="clean"), page_campaign.CLEAN),
+    ("", Moved.outcome, dict(word="incomplete page 9"), page_campaign.FAILED),
+])
+def test_what_came_of_it(monkeypatch, tmp_path, fault, outcome, verdict, word):
+    monkeypatch.setattr(Moved, "outcome", outcome)
+    monkeypatch.setattr(page_campaign, "Migration", Moved)
+    monkeypatch.setattr(page_verdict, "judged", lambda *sides: page_verdict.Verdict(told=[], is_whole=outcome == page_campaign.SILENT, **verdict))
+    row = {axis: values[0] for axis, values in page_campaign.AXES.items()}
+    same("word", page_campaign.made({**row, "guest": page_campaign.BALLOON}, fault, tmp_path, None, contextlib.nullcontext(), tmp_path), word)
 
 
 @pytest.mark.parametrize("source, target", [("postcopy-active", "postcopy-paused"), ("postcopy-active", "ended"), ("completed", "postcopy-active")])

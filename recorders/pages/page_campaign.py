@@ -34,6 +34,7 @@ AXES = {
     "TLS": ("none", *page_tls.KINDS),
     "writes": ("not tracked", "tracked"),
 }
+KINDS = tuple(kind for fault in FAULTS for kind in ("", fault))  # every second one has a fault
 RESULTS = "results"  # the file of a folder, with a line for each migration
 CLEAN, TOLD, FAILED, NOT_PUT_IN, NOT_RECORDED = "clean", "told by its pages, and no other", "not clean, and QEMU says so itself", "not put in", "not recorded"
 REFUSED = "told by its page, and QEMU says so itself"
@@ -68,12 +69,12 @@ def fit_for(row, fault):
     return {**row, "TLS": "none", "way": way, "pages": row["pages"] if fault in ("flip", "flip-end", "stale", "swap") else "4 KiB"}
 
 
-def drawn(count, seed, values, kinds=FAULTS):
-    """Yields as many rows, every second one with a fault of these kinds in turn, of which one may be none. Rows that are drawn anew have each pair of the values."""
+def drawn(count, seed, values, kinds=KINDS):
+    """Yields as many rows, with these kinds of faults in turn. Rows that are drawn anew have each pair of the values."""
     random_one, left = random.Random(seed), []
     for number in range(count):
         left = left or axes.rows(random_one, values)
-        fault = kinds[number // 2 % len(kinds)] if number % 2 else ""
+        fault = kinds[number % len(kinds)]
         yield fit_for(left.pop(), fault), fault
 
 
@@ -140,7 +141,7 @@ def results_of(folder):
 
 
 def run(count, seed, minutes, jobs, chosen, kinds, folder, emulator, say):
-    """Makes so many migrations, as long as there are minutes left, several at once, with faults of these kinds. `chosen` has the values of axes
+    """Makes so many migrations, as long as there are minutes left, several at once, with these kinds of faults in turn. `chosen` has the values of axes
     that are not all tried. Returns how many were made, and whether each was as it should be. Folders with something to look at are kept."""
     until = time.monotonic() + 60 * minutes
     values, refused = axes.possible(lambda row: emulator.require(settings_of(row), build.build()[1]), {**AXES, **chosen})
