@@ -178,12 +178,12 @@ class Migration:
         return self.follow()
 
     def blow_up(self):
-        """Asks the guest for a quarter of its memory, and waits until it gives some."""
+        """Asks the guest for a quarter of its memory, but for a DIMM's, which it may not use; and waits until it gives some."""
         def left():
             return source("query-balloon")["actual"]
 
         source, before = self.machines["source"].qmp, self.machines["source"]("query-balloon")["actual"]
-        source("balloon", value=before * 3 // 4)
+        source("balloon", value=before - (self.settings.ram << 20) // 4)
         if not wait_until(lambda: left() < before, seconds=SECONDS_FOR_LAST):
             raise build.Missing("the guest's balloon does not move")
         self.say(f"the guest has given {before - left() >> 10} KiB of its memory back")
