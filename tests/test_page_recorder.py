@@ -429,6 +429,15 @@ def test_process_of_another_guest(sides):
         sides.judged()
 
 
+@pytest.mark.parametrize("twin, word, count", [("twin", "clean", 0), ("twin=1", "faulty", 60)])
+def test_equal_blocks(sides, twin, word, count):
+    """Two blocks of one length; and such blocks that were made in another order at the source, as hot-plug may: all of their pages but zeros are told."""
+    sides.run_target("twin")
+    sides.run_source(of=[twin])
+    verdict = sides.judged()
+    same("verdict", (verdict.word, len(verdict.places), {place.split(" + ")[0] for place in verdict.places}), (word, count, {"block 1", "/memfd:block"} if count else set()))
+
+
 def test_process_of_a_guest_like_it(sides):
     """Another guest with blocks of the same lengths: all pages but those of zeros are told."""
     sides.run_target()

@@ -12,6 +12,7 @@
  *         twice=P    it is put in place twice
  *         write=P    it is written to when all pages are there
  *         die=P      the process is killed before it
+ *         twin       there is a third block, of 40 pages that are private. At the source, `twin=1` has its contents in the second, and the second's in it
  *         precopy    nothing is guarded: there is no switch
  *         plug       a third block comes: at the source at the beginning, and at the target once the others are guarded
  *         show       the second block's pages are put into the file, and shown two by two by UFFDIO_CONTINUE
@@ -33,10 +34,11 @@
 #include <unistd.h>
 
 #define PAGE 4096UL
-static const uint64_t pages_of[] = {600, 40};
-static char *memory[2], *other; /* `other` is a second mapping of the file */
+static const uint64_t pages_of[] = {600, 40, 40};
+static const int places[] = {200, 100, 900}; /* with pages between the blocks, as QEMU leaves some */
+static char *memory[3], *other; /* `other` is a second mapping of the file */
 static const char *const *words;
-static int is_shown, uffd;
+static int is_shown, uffd, blocks = 2;
 static uint64_t is_other;
 
 static void check(int is_right, const char *what)
@@ -113,14 +115,14 @@ static void migrate(long left)
     if (number("precopy") >= 0)
         return;
     open_userfaultfd();
-    for (int block = 0; block < 2; block++) {
+    for (int block = 0; block < blocks; block++) {
         uint64_t mode = is_shown && block ? UFFDIO_REGISTER_MODE_MINOR : UFFDIO_REGISTER_MODE_MISSING;
         struct uffdio_register guard = {{(uintptr_t)memory[block], pages_of[block] * PAGE}, mode, 0};
         check(ioctl(uffd, UFFDIO_REGISTER, &guard) == 0, "UFFDIO_REGISTER");
     }
     if (number("plug") >= 0)
         check(ioctl(uffd, UFFDIO_REGISTER, &(struct uffdio_register){plugged(), UFFDIO_REGISTER_MODE_MISSING, 0}) == 0, "UFFDIO_REGISTER");
-    for (long block = 0, page = 0; block < 2; block++)
+    for (long block = 0, page = 0; block < blocks; block++)
         for (long at = 0; at < (long)pages_of[block]; at++, page++) {
             if (page == number("die="))
                 kill(getpid(), SIGKILL);
@@ -131,7 +133,7 @@ static void migrate(long left)
         }
     if (number("write=") >= 0)
         memory[0][(uint64_t)number("write=") * PAGE] ^= 1;
-    for (int block = 0; block < 2; block++)
+    for (int block = 0; block < blocks; block++)
         check(ioctl(uffd, UFFDIO_UNREGISTER, &(struct uffdio_range){(uintptr_t)memory[block], pages_of[block] * PAGE}) == 0, "UFFDIO_UNREGISTER");
 }
 
@@ -152,16 +154,21 @@ int main(int count, char **word)
     is_shown = number("show") >= 0;
     is_other = number("other") >= 0;
     check(file >= 0 && ftruncate(file, (off_t)(pages_of[1] * PAGE)) == 0, "memfd_create");
-    char *room = mmap(NULL, 1000 * PAGE, PROT_NONE, MAP_PRIVATE | MAP_ANONYMOUS, -1, 0); /* with pages between the blocks, as QEMU leaves some */
-    for (int block = 0; block < 2; block++) {
+    char *room = mmap(NULL, 1000 * PAGE, PROT_NONE, MAP_PRIVATE | MAP_ANONYMOUS, -1, 0);
+    blocks += number("twin") >= 0;
+    for (int block = 0; block < blocks; block++) {
         uint64_t length = pages_of[block] * PAGE;
-        memory[block] = mmap(room + (block ? 100 : 200) * PAGE, length, PROT_READ | PROT_WRITE,
-                             MAP_FIXED | (block ? MAP_SHARED : MAP_PRIVATE | MAP_ANONYMOUS), block ? file : -1, 0);
+        memory[block] = mmap(room + places[block] * (int)PAGE, length, PROT_READ | PROT_WRITE,
+                             MAP_FIXED | (block == 1 ? MAP_SHARED : MAP_PRIVATE | MAP_ANONYMOUS), block == 1 ? file : -1, 0);
         check(memory[block] != MAP_FAILED && madvise(memory[block], length, MADV_DONTFORK) == 0, "mmap");
     }
     other = mmap(NULL, pages_of[1] * PAGE, PROT_READ | PROT_WRITE, MAP_SHARED, file, 0);
+    if (number("twin=") > 0) {
+        char *second = memory[1];
+        memory[1] = memory[2], memory[2] = second;
+    }
     long left = count > 2 ? atol(word[2]) : 0;
-    for (long block = 0, page = 0; block < 2; block++)
+    for (long block = 0, page = 0; block < blocks; block++)
         for (long at = 0; at < (long)pages_of[block]; at++, page++)
             if (is_source || at < (block && left > 20 ? 20 : left))
                 fill(memory[block] + (uint64_t)at * PAGE, page);
