@@ -56,7 +56,7 @@ def ram_of(row):
 def settings_of(row, fault=""):
     is_linux, has_balloon = "Linux" in row["guest"], row["guest"] == BALLOON
     return Settings(ram=ram_of(row), memory=row["memory"], huge=row["pages"] == "2 MiB", kvm="KVM" in row["guest"], is_linux=is_linux, workload="work=200:100",
-                    has_balloon=has_balloon, pre=2.5 if has_balloon else 0.5,
+                    has_balloon=has_balloon, pre=2.5 if has_balloon else 1.5 if fault == "keep-drop" else 0.5,  # a page that was sent has to change since
                     further=["postcopy-preempt"] if row["way"] == "preempt" else [], tls=row["TLS"] if row["TLS"] in page_tls.KINDS else "", cuts=[640] if row["way"] == "cut" else [],
                     is_tracking=row["writes"] == "tracked", fault=fault, pace=SLOWLY if fault == "preflip" else 0)
 
