@@ -655,12 +655,12 @@ def test_campaign(tmp_path):
     same("MiB", [page_campaign.settings_of({**row, "size": size, "guest": guest}).ram for size, guest in sizes], [64, 160, 512, 2048])
     words = [("", page_campaign.CLEAN), ("", "faulty, 1 pages, 0 put in; completed"), ("", page_campaign.FAILED), ("", page_campaign.GIVEN_BACK), ("flip", page_campaign.TOLD),
              ("flip", "clean, 0 pages, 1 put in; completed"), ("flip", page_campaign.NOT_PUT_IN), ("flip", f"{page_campaign.NOT_RECORDED}: why"), ("twice", page_campaign.FAILED),
-             ("twice", page_campaign.REFUSED)]
+             ("twice", f"{page_campaign.NOT_PUT_IN}: incomplete resume; completed"), ("twice", page_campaign.REFUSED)]
     folder = f"{tmp_path}/{page_campaign.RESULTS}"
     for fault, word in words:
         page_campaign.write(folder, json.dumps(page_campaign.Result(row, fault, word, "QEMU 7.2.22", 3.4)._asdict()) + "\n", "a")
     table = page_campaign.table(page_campaign.results_of(tmp_path)).splitlines()
-    same("conditions", table[0], "10 migrations of QEMU 7.2.22, at a load of 3 to 3; 1 were not recorded:")
+    same("conditions", table[0], "11 migrations of QEMU 7.2.22, at a load of 3 to 3; 1 were not recorded:")
     same("table", [line for line in table if re.match(r"\| (all|size|flip|twice)", line)], [
         *(f"| {part} | 1 of 4 clean, 1 not clean, and QEMU says so itself, 1 with pages that were given back once they had been sent |" for part in ("all", "size small")),
         "| flip: a bit of a page's first word is flipped | 1 of 2 told by its pages, and no other |",
@@ -668,17 +668,17 @@ def test_campaign(tmp_path):
 
 
 class Moved:
-    """A migration that was made, with a fault in page 7."""
+    """A migration that was made, with a fault in page 7, or one that was not put in."""
     outcome = "source failed, target ended"
 
-    def __init__(self, *of):
-        pass
+    def __init__(self, settings, *of):
+        self.settings = settings
 
     def run(self):
         return self.outcome
 
     def put_in(self):
-        return [7]
+        return [] if "not put in" in self.settings.fault else [7]
 
 
 SEVEN = "pc.ram + 0x7000"
@@ -693,6 +693,9 @@ SEVEN = "pc.ram + 0x7000"
     ("", page_campaign.SILENT, dict(word="faulty", places=(SEVEN, "pc.ram + 0x9000"), nothing=1), "faulty, 2 pages, 0 put in; source completed, target completed"),
     ("", page_campaign.SILENT, dict(word="clean"), page_campaign.CLEAN),
     ("", Moved.outcome, dict(word="incomplete page 9"), page_campaign.FAILED),
+    ("flip, not put in", Moved.outcome, dict(word="incomplete resume"), f"{page_campaign.NOT_PUT_IN}: incomplete resume; {Moved.outcome}"),
+    ("flip, not put in", page_campaign.SILENT, dict(word="faulty", places=(SEVEN,)), "faulty, 1 pages, 0 put in; source completed, target completed"),
+    ("flip, not put in", page_campaign.SILENT, dict(word="clean"), page_campaign.NOT_PUT_IN),
 ])
 def test_what_came_of_it(monkeypatch, tmp_path, fault, outcome, verdict, word):
     monkeypatch.setattr(Moved, "outcome", outcome)

@@ -103,6 +103,8 @@ def made(row, fault, folder, emulator, turns, room):
         return FAILED
     if verdict.is_clean and not put_in:
         return NOT_PUT_IN if fault else CLEAN
+    if fault and not put_in and outcome != SILENT:
+        return f"{NOT_PUT_IN}: {verdict.word}; {outcome}"
     if settings.has_balloon and not fault and outcome == SILENT and verdict.places and verdict.nothing == len(verdict.places):
         return GIVEN_BACK
     return f"{verdict.word}, {len(verdict.places)} pages, {len(put_in)} put in; {outcome}"
@@ -121,7 +123,7 @@ def table(found):
     for one in recorded:
         for part in [("all", ""), *one.row.items()] if not one.fault else ():
             clean[part][one.word if one.word in (CLEAN, FAILED, GIVEN_BACK) else "other"] += 1
-        if one.fault and one.word != NOT_PUT_IN:
+        if one.fault and not one.word.startswith(NOT_PUT_IN):
             told[one.fault][one.word] += 1
     values = [(axis, value) for axis, of_axis in [("all", ("",)), *AXES.items()] for value in of_axis]
     lines = [[axes.in_words([part]).strip(), in_words(clean[part])] for part in values if part in clean]
