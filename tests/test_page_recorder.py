@@ -4,6 +4,7 @@ Most cases are of a process, recorders/tests/guarded.c, that has blocks of memor
 computed here once more, by its definition. The migrations are left out where QEMU is not there and may not be installed.
 """
 import collections
+import contextlib
 import json
 import os
 import re
@@ -214,6 +215,15 @@ def test_twice(sides):
                         for name in os.listdir(sides.target) if name.startswith("pager.")), 1)
 
 
+def test_refused(sides):
+    """A page that comes twice, where post-copy breaks off by it: it is told."""
+    sides.run_target("twice=201", "die=402")
+    sides.run_source()
+    verdict = sides.judged()
+    same("verdict", (verdict.is_clean, verdict.refused, verdict.told[-1]),
+         (False, ("block 0 + 0xc9000",), "page 201, block 0 + 0xc9000: it came when it was there already, and was refused"))
+
+
 def test_shown(sides):
     """Shared memory that is shown by UFFDIO_CONTINUE, and a fault in it."""
     done = sides.run_target("show", "flip=637")
@@ -333,9 +343,13 @@ def test_log_without_its_end(sides, side, party):
     same("verdict", (verdict.word, verdict.is_whole, verdict.is_clean, "has no end" in verdict.told[0]), ("clean", False, False, True))
 
 
-def test_library_is_not_loaded(sides, capfd):
-    page_target.prepare(sides.target, KEY, False)
-    subprocess.run([sides.guarded, "target", "0"], check=True, capture_output=True)
+@pytest.mark.parametrize("library", [None, "{}.none"], ids=["not named", "wrong path"])
+def test_library_is_not_loaded(sides, library):
+    variables = page_target.prepare(sides.target, KEY, False)
+    path = variables.pop("LD_PRELOAD")
+    preloaded = {"LD_PRELOAD": library.format(path)} if library else {}
+    done = subprocess.run([sides.guarded, "target", "0"], env={**os.environ, **variables, **preloaded}, capture_output=True, text=True)
+    same("the process", (done.returncode, "cannot be preloaded" in done.stderr), (0, bool(library)))
     sides.run_source()
     with pytest.raises(build.Missing, match="nothing was recorded at the target"):
         sides.judged()
@@ -359,6 +373,46 @@ def test_secure_execution(sides):
             page_verdict.judged(folder, sides.source)
 
 
+def test_no_switch(sides):
+    """The library is there, and the migration ends in pre-copy: the process has tried userfaultfd, and guards nothing."""
+    done = sides.run_target("precopy")
+    same("the process", (done.returncode, "is not recorded" in done.stderr), (0, False))
+    sides.run_source()
+    with pytest.raises(build.Missing, match="nothing was recorded at the target: .* there was no post-copy"):
+        sides.judged()
+
+
+def test_userfaultfd_is_for_root(tmp_path):
+    """What the emulator's user lacks is told before anybody migrates: userfaultfd, the way to the folder, and room."""
+    with open("/proc/sys/vm/unprivileged_userfaultfd", encoding="ascii") as file:
+        is_for_root = file.read() == "0\n"
+    os.makedirs(f"{tmp_path}/closed/target")
+    os.chmod(f"{tmp_path}/closed", 0o700)
+    user = collections.namedtuple("User", "pw_name pw_uid")("emulator", os.geteuid() + 1000)
+    found = list(page_target.obstacles(f"{tmp_path}/closed/target", 1 << 60, user))
+    same("userfaultfd", sum("sysctl vm.unprivileged_userfaultfd=1" in line for line in found), is_for_root)
+    same("room", sum(" MiB are needed" in line for line in found), 1)
+    same("the way", sum(f"emulator cannot go through {tmp_path}/closed to" in line for line in found), 1)
+
+
+APPARMOR = "/usr/** r,", "  owner /var/{{lib,tmp}}/{0}/* rw,", "  /var/*/{0}/*.so m,", "  @{{PROC}}/@{{pid}}/smaps r,", "  owner @{{PROC}}/*/pagemap r,"
+
+
+@pytest.mark.parametrize("is_on, rules, lacks", [
+    ("N", [], []), ("Y", [0], ["{}/** rwm", "smaps,pagemap"]), ("Y", [0, 1], ["{}/** rwm", "smaps,pagemap"]), ("Y", [1, 2], ["smaps,pagemap"]), ("Y", [0, 1, 2, 3, 4], []), ("Y", [3, 4], ["{}/** rwm"]),
+    (None, [], []),
+], ids=str)
+def test_apparmor(tmp_path, is_on, rules, lacks):
+    """What no rule for emulators allows is told, with the line that would."""
+    os.makedirs(f"{tmp_path}/sys/module/apparmor/parameters")
+    os.makedirs(f"{tmp_path}/etc/apparmor.d/local/abstractions")
+    if is_on:
+        page_target.write(f"{tmp_path}/sys/module/apparmor/parameters/enabled", f"{is_on}\n")
+    page_target.write(f"{tmp_path}{page_target.RULES[1]}", "".join(f"{APPARMOR[rule].format('target')}\n" for rule in rules))
+    found = list(page_target.remarks("/var/tmp/target", tmp_path))
+    same("told", (len(found), [lack for lack in ("{}/** rwm", "smaps,pagemap") if lack.format("/var/tmp/target") in "".join(found)]), (bool(lacks), lacks))
+
+
 def test_block_that_is_added(sides):
     """A block that comes once others are guarded: nothing is recorded, and the process goes on."""
     done = sides.run_target("plug")
@@ -373,6 +427,58 @@ def test_process_of_another_guest(sides):
     sides.run_source(of=["plug"])
     with pytest.raises(build.Missing, match="different blocks of memory, of so many pages: target 600 40; source 600 40 8"):
         sides.judged()
+
+
+@pytest.mark.parametrize("twin, word, count", [("twin", "clean", 0), ("twin=1", "faulty", 60)])
+def test_equal_blocks(sides, twin, word, count):
+    """Two blocks of one length; and such blocks that were made in another order at the source, as hot-plug may: all of their pages but zeros are told."""
+    sides.run_target("twin")
+    sides.run_source(of=[twin])
+    verdict = sides.judged()
+    same("verdict", (verdict.word, len(verdict.places), {place.split(" + ")[0] for place in verdict.places}), (word, count, {"block 1", "/memfd:block"} if count else set()))
+
+
+def test_process_of_a_guest_like_it(sides):
+    """Another guest with blocks of the same lengths: all pages but those of zeros are told."""
+    sides.run_target()
+    sides.run_source(of=["other"])
+    verdict = sides.judged()
+    same("verdict", (verdict.word, len(verdict.places)), ("faulty", PAGES // 4 * 3))
+
+
+@pytest.mark.parametrize("party, before", [("source", "send 9"), ("machine", "page 9"), ("pager", r"place 9 \d+")])
+def test_changed_bit(sides, party, before):
+    """A digit of a hash is other than it was written: the page is told, or the files are refused."""
+    sides.run_target()
+    sides.run_source()
+    paths = [f"{folder}/{name}" for folder in (sides.source, sides.target) for name in os.listdir(folder) if name.startswith(f"{party}.")]
+    count = 0
+    for path in paths:
+        with open(path, encoding="ascii") as file:
+            text, times = re.subn(rf"(?<= )({before} )(\w)", lambda match: match[1] + "01"[match[2] == "0"], file.read())
+        count += times
+        page_target.write(path, text)
+    same("changed", count, 1)
+    try:
+        verdict = sides.judged()
+    except build.Missing:
+        return
+    same("verdict", (verdict.is_clean, [place for place in verdict.places if place != "block 0 + 0x9000"]), (False, []))
+
+
+@pytest.mark.parametrize("side, name", [("source", "source"), ("source", "machine"), ("target", "pager"), ("source", "blocks"), ("target", "blocks")])
+def test_file_cut_short(sides, side, name):
+    """The longest file of a party ends in the middle of a line."""
+    sides.run_target()
+    sides.run_source()
+    folder = getattr(sides, side)
+    path = max((f"{folder}/{one}" for one in os.listdir(folder) if one.split(".")[0] == name), key=os.path.getsize)
+    os.truncate(path, os.path.getsize(path) // 2)
+    try:
+        verdict = sides.judged()
+    except build.Missing:
+        return
+    same("verdict", (verdict.is_whole, verdict.is_clean), (False, False))
 
 
 def test_another_key(sides):
@@ -543,17 +649,60 @@ def test_campaign(tmp_path):
     with_fault = {fault: [row for row, its in drawn if its == fault] for fault in page_migration.FAULTS}
     same("ways", {fault: {row["way"] for row in rows} for fault, rows in with_fault.items()}, {**dict.fromkeys(page_migration.FAULTS, {"plain", "preempt"}), "forget": {"cut"}})
     same("TLS", {row["TLS"] for rows in with_fault.values() for row in rows}, {"none"})
+    same("named faults", [fault for _, fault in page_campaign.drawn(5, 1, page_campaign.AXES, ("keep", "", "keep"))], ["keep", "", "keep", "keep", ""])
     row = {axis: values[0] for axis, values in page_campaign.AXES.items()}
-    words = [("", page_campaign.CLEAN), ("", "faulty, 1 pages, 0 put in; completed"), ("", page_campaign.FAILED), ("flip", page_campaign.TOLD), ("flip", "clean, 0 pages, 1 put in; completed"),
-             ("flip", page_campaign.NOT_PUT_IN), ("flip", f"{page_campaign.NOT_RECORDED}: why"), ("twice", page_campaign.FAILED)]
+    sizes = [("small", "test, TCG"), ("small", "Linux, TCG"), ("512 MiB", "Linux, TCG"), ("2 GiB", "test, KVM")]
+    same("MiB", [page_campaign.settings_of({**row, "size": size, "guest": guest}).ram for size, guest in sizes], [64, 160, 512, 2048])
+    words = [("", page_campaign.CLEAN), ("", "faulty, 1 pages, 0 put in; completed"), ("", page_campaign.FAILED), ("", page_campaign.GIVEN_BACK), ("flip", page_campaign.TOLD),
+             ("flip", "clean, 0 pages, 1 put in; completed"), ("flip", page_campaign.NOT_PUT_IN), ("flip", f"{page_campaign.NOT_RECORDED}: why"), ("twice", page_campaign.FAILED),
+             ("twice", f"{page_campaign.NOT_PUT_IN}: incomplete resume; completed"), ("twice", page_campaign.REFUSED)]
     folder = f"{tmp_path}/{page_campaign.RESULTS}"
     for fault, word in words:
         page_campaign.write(folder, json.dumps(page_campaign.Result(row, fault, word, "QEMU 7.2.22", 3.4)._asdict()) + "\n", "a")
     table = page_campaign.table(page_campaign.results_of(tmp_path)).splitlines()
-    same("conditions", table[0], "8 migrations of QEMU 7.2.22, at a load of 3 to 3; 1 were not recorded:")
-    same("table", [line for line in table if re.match(r"\| (all|guest|flip|twice)", line)], [
-        *(f"| {part} | 1 of 3 clean, 1 not clean, and QEMU says so itself |" for part in ("all", "guest test, TCG")), "| flip: a bit of a page's first word is flipped | 1 of 2 told by its pages, and no other |",
-        "| twice: a page comes twice | 1 of 1 not clean, and QEMU says so itself |"])
+    same("conditions", table[0], "11 migrations of QEMU 7.2.22, at a load of 3 to 3; 1 were not recorded:")
+    same("table", [line for line in table if re.match(r"\| (all|size|flip|twice)", line)], [
+        *(f"| {part} | 1 of 4 clean, 1 not clean, and QEMU says so itself, 1 with pages that were given back once they had been sent |" for part in ("all", "size small")),
+        "| flip: a bit of a page's first word is flipped | 1 of 2 told by its pages, and no other |",
+        "| twice: a page comes twice | 1 of 2 told by its page, and QEMU says so itself; 1 of 2 not clean, and QEMU says so itself |"])
+
+
+class Moved:
+    """A migration that was made, with a fault in page 7, or one that was not put in."""
+    outcome = "source failed, target ended"
+
+    def __init__(self, settings, *of):
+        self.settings = settings
+
+    def run(self):
+        return self.outcome
+
+    def put_in(self):
+        return [] if "not put in" in self.settings.fault else [7]
+
+
+SEVEN = "pc.ram + 0x7000"
+
+
+@pytest.mark.parametrize("fault, outcome, verdict, word", [
+    ("twice", Moved.outcome, dict(word="incomplete page 9", refused=(SEVEN,), places=("pc.ram + 0x9000",)), page_campaign.REFUSED),
+    ("twice", Moved.outcome, dict(word="incomplete page 9", refused=("pc.ram + 0x8000",)), page_campaign.FAILED),
+    ("keep", page_campaign.SILENT, dict(word="faulty", places=(SEVEN,)), page_campaign.TOLD),
+    ("flip", page_campaign.SILENT, dict(word="faulty", places=(SEVEN, "pc.ram + 0x9000")), "faulty, 2 pages, 1 put in; source completed, target completed"),
+    ("", page_campaign.SILENT, dict(word="faulty", places=(SEVEN,), nothing=1), page_campaign.GIVEN_BACK),
+    ("", page_campaign.SILENT, dict(word="faulty", places=(SEVEN, "pc.ram + 0x9000"), nothing=1), "faulty, 2 pages, 0 put in; source completed, target completed"),
+    ("", page_campaign.SILENT, dict(word="clean"), page_campaign.CLEAN),
+    ("", Moved.outcome, dict(word="incomplete page 9"), page_campaign.FAILED),
+    ("flip, not put in", Moved.outcome, dict(word="incomplete resume"), f"{page_campaign.NOT_PUT_IN}: incomplete resume; {Moved.outcome}"),
+    ("flip, not put in", page_campaign.SILENT, dict(word="faulty", places=(SEVEN,)), "faulty, 1 pages, 0 put in; source completed, target completed"),
+    ("flip, not put in", page_campaign.SILENT, dict(word="clean"), page_campaign.NOT_PUT_IN),
+])
+def test_what_came_of_it(monkeypatch, tmp_path, fault, outcome, verdict, word):
+    monkeypatch.setattr(Moved, "outcome", outcome)
+    monkeypatch.setattr(page_campaign, "Migration", Moved)
+    monkeypatch.setattr(page_verdict, "judged", lambda *sides: page_verdict.Verdict(told=[], is_whole=outcome == page_campaign.SILENT, **verdict))
+    row = {axis: values[0] for axis, values in page_campaign.AXES.items()}
+    same("word", page_campaign.made({**row, "guest": page_campaign.BALLOON}, fault, tmp_path, None, contextlib.nullcontext(), tmp_path), word)
 
 
 @pytest.mark.parametrize("source, target", [("postcopy-active", "postcopy-paused"), ("postcopy-active", "ended"), ("completed", "postcopy-active")])

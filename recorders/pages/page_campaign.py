@@ -6,6 +6,8 @@ import json
 import os
 import random
 import shutil
+import tempfile
+import threading
 import time
 
 import axes
@@ -21,27 +23,40 @@ from page_source import Lost
 from results import markdown
 
 BALLOON = "Linux with a balloon, TCG"
+SMALL = "small"  # what the guest needs
 # The values of each axis, by its name. The first is what any QEMU has.
 AXES = {
     "guest": ("test, TCG", "test, KVM", "Linux, TCG", BALLOON),
     "memory": tuple(memory for memory in MEMORIES if memory != "virtio-mem"),  # whose pages come only where the guest has plugged them
+    "size": (SMALL, "512 MiB", "1 GiB", "2 GiB"),
     "pages": ("4 KiB", "2 MiB"),
     "way": ("plain", "preempt", "cut"),
     "TLS": ("none", *page_tls.KINDS),
     "writes": ("not tracked", "tracked"),
 }
+KINDS = tuple(kind for fault in FAULTS for kind in ("", fault))  # every second one has a fault
 RESULTS = "results"  # the file of a folder, with a line for each migration
 CLEAN, TOLD, FAILED, NOT_PUT_IN, NOT_RECORDED = "clean", "told by its pages, and no other", "not clean, and QEMU says so itself", "not put in", "not recorded"
+REFUSED = "told by its page, and QEMU says so itself"
+GIVEN_BACK = "with pages that were given back once they had been sent"  # as the answer says of each, and of no other
 SLOWLY = 20000  # that pages which pre-copy has sent are not all written to again
 SILENT = "source completed, target completed"  # as QEMU has it
 
 Result = collections.namedtuple("Result", "row fault word version load")  # of one migration
 
 
+def ram_of(row):
+    """Returns the MiB of a row's first block."""
+    if row["size"] == SMALL:
+        return 160 if "Linux" in row["guest"] else 64
+    number, unit = row["size"].split()
+    return int(number) << (10 if unit == "GiB" else 0)
+
+
 def settings_of(row, fault=""):
     is_linux, has_balloon = "Linux" in row["guest"], row["guest"] == BALLOON
-    return Settings(ram=160 if is_linux else 64, memory=row["memory"], huge=row["pages"] == "2 MiB", kvm="KVM" in row["guest"], is_linux=is_linux, workload="work=200:100",
-                    has_balloon=has_balloon, pre=2.5 if has_balloon else 0.5,
+    return Settings(ram=ram_of(row), memory=row["memory"], huge=row["pages"] == "2 MiB", kvm="KVM" in row["guest"], is_linux=is_linux, workload="work=200:100",
+                    has_balloon=has_balloon, pre=2.5 if has_balloon else 1.5 if fault == "keep-drop" else 0.5,  # a page that was sent has to change since
                     further=["postcopy-preempt"] if row["way"] == "preempt" else [], tls=row["TLS"] if row["TLS"] in page_tls.KINDS else "", cuts=[640] if row["way"] == "cut" else [],
                     is_tracking=row["writes"] == "tracked", fault=fault, pace=SLOWLY if fault == "preflip" else 0)
 
@@ -54,37 +69,50 @@ def fit_for(row, fault):
     return {**row, "TLS": "none", "way": way, "pages": row["pages"] if fault in ("flip", "flip-end", "stale", "swap") else "4 KiB"}
 
 
-def drawn(count, seed, values):
-    """Yields as many rows, each with a fault or none. Rows that are drawn anew have each pair of the values."""
+def drawn(count, seed, values, kinds=KINDS):
+    """Yields as many rows, with these kinds of faults in turn. Rows that are drawn anew have each pair of the values."""
     random_one, left = random.Random(seed), []
     for number in range(count):
         left = left or axes.rows(random_one, values)
-        fault = FAULTS[number // 2 % len(FAULTS)] if number % 2 else ""
+        fault = kinds[number % len(kinds)]
         yield fit_for(left.pop(), fault), fault
 
 
-def made(row, fault, folder, emulator):
-    """Makes a migration, and returns what came of it, in words."""
-    migration = Migration(settings_of(row, fault), folder, emulator, lambda line: None)
+def made(row, fault, folder, emulator, turns, room):
+    """Makes a migration in one of the turns, and returns what came of it, in words. It is judged while the next one has the turn. Linux boots once
+    for each kind of machine, and is kept in the room."""
+    settings = settings_of(row, fault)
+    if settings.is_linux:
+        settings.booted = f"{room}/{'-'.join(row[axis].replace(' ', '-') for axis in ('guest', 'memory', 'size', 'pages'))}"
+    migration = Migration(settings, folder, emulator, lambda line: None)
+    migration.is_asked = True
     try:
-        outcome = migration.run()
+        with turns:
+            outcome = migration.run()
         verdict = page_verdict.judged(f"{folder}/target", f"{folder}/source")
     except (Lost, build.Missing) as why:
         return f"{NOT_RECORDED}: {why}"
     put_in = migration.put_in() if fault else []
-    if put_in and not verdict.is_clean and sorted(verdict.places) == sorted(f"{PC_RAM} + {page * PAGE:#x}" for page in put_in):
+    places = sorted(f"{PC_RAM} + {page * PAGE:#x}" for page in put_in)
+    if put_in and not verdict.is_clean and sorted(verdict.places) == places:
         return TOLD
+    if put_in and outcome != SILENT and sorted(verdict.refused) == places:
+        return REFUSED
     has_ended = verdict.word.startswith("incomplete") or fault in faults.FOUND_BY_QEMU  # for another cause, before the fault could be told
     if not verdict.is_clean and outcome != SILENT and (not fault or put_in and has_ended):
         return FAILED
     if verdict.is_clean and not put_in:
         return NOT_PUT_IN if fault else CLEAN
+    if fault and not put_in and outcome != SILENT:
+        return f"{NOT_PUT_IN}: {verdict.word}; {outcome}"
+    if settings.has_balloon and not fault and outcome == SILENT and verdict.places and verdict.nothing == len(verdict.places):
+        return GIVEN_BACK
     return f"{verdict.word}, {len(verdict.places)} pages, {len(put_in)} put in; {outcome}"
 
 
 def in_words(count):
-    failed = f", {count[FAILED]} {FAILED}" if count[FAILED] else ""
-    return f"{count[CLEAN]} of {count.total()} clean{failed}"
+    others = "".join(f", {count[word]} {word}" for word in (FAILED, GIVEN_BACK) if count[word])
+    return f"{count[CLEAN]} of {count.total()} clean{others}"
 
 
 def table(found):
@@ -94,13 +122,14 @@ def table(found):
     clean, told = collections.defaultdict(collections.Counter), collections.defaultdict(collections.Counter)
     for one in recorded:
         for part in [("all", ""), *one.row.items()] if not one.fault else ():
-            clean[part][one.word if one.word in (CLEAN, FAILED) else "other"] += 1
-        if one.fault and one.word != NOT_PUT_IN:
+            clean[part][one.word if one.word in (CLEAN, FAILED, GIVEN_BACK) else "other"] += 1
+        if one.fault and not one.word.startswith(NOT_PUT_IN):
             told[one.fault][one.word] += 1
     values = [(axis, value) for axis, of_axis in [("all", ("",)), *AXES.items()] for value in of_axis]
     lines = [[axes.in_words([part]).strip(), in_words(clean[part])] for part in values if part in clean]
     for fault in (fault for fault in FAULTS if fault in told):
-        parts = [f"{told[fault][word]} of {told[fault].total()} {word}" for word in (TOLD, FAILED) if told[fault][word] or word == TOLD and not told[fault][FAILED]]
+        words = [word for word in (TOLD, REFUSED, FAILED) if told[fault][word]] or [TOLD]
+        parts = [f"{told[fault][word]} of {told[fault].total()} {word}" for word in words]
         lines.append([f"{fault}: {faults.KINDS[fault].split(':')[0]}", "; ".join(parts)])
     loads = sorted(one.load for one in found)
     told_first = (f"{len(found)} migrations of {' and '.join(sorted({one.version for one in found}))}, at a load of {loads[0]:.0f} to {loads[-1]:.0f}; "
@@ -113,11 +142,11 @@ def results_of(folder):
     return lines_of(f"{folder}/{RESULTS}", lambda line: Result(**json.loads(line)), "result of a campaign")
 
 
-def run(count, seed, minutes, jobs, guests, folder, emulator, say):
-    """Makes so many migrations, as long as there are minutes left, several at once. Returns how many were made, and whether each was as it should be.
-    Folders with something to look at are kept."""
+def run(count, seed, minutes, jobs, chosen, kinds, folder, emulator, say):
+    """Makes so many migrations, as long as there are minutes left, several at once, with these kinds of faults in turn. `chosen` has the values of axes
+    that are not all tried. Returns how many were made, and whether each was as it should be. Folders with something to look at are kept."""
     until = time.monotonic() + 60 * minutes
-    values, refused = axes.possible(lambda row: emulator.require(settings_of(row), build.build()[1]), {**AXES, "guest": tuple(guests)})
+    values, refused = axes.possible(lambda row: emulator.require(settings_of(row), build.build()[1]), {**AXES, **chosen})
     for part, why in refused.items():
         say(f"left out, {axes.in_words([part])}: {why}")
     os.makedirs(folder, exist_ok=True)
@@ -127,16 +156,18 @@ def run(count, seed, minutes, jobs, guests, folder, emulator, say):
         if time.monotonic() > until:
             return None
         place = f"{folder}/{seed}-{number:03}"
-        word = made(row, fault, place, emulator)
+        word = made(row, fault, place, emulator, turns, room)
         write(f"{folder}/{RESULTS}", json.dumps(Result(row, fault, word, str(emulator), os.getloadavg()[0])._asdict()) + "\n", "a")
-        if is_well := word in (CLEAN, TOLD, FAILED, NOT_PUT_IN):
+        if is_well := word in (CLEAN, TOLD, REFUSED, FAILED, NOT_PUT_IN, GIVEN_BACK):
             shutil.rmtree(place)
         say(f"{number:03} {axes.in_words(row.items())}{f', {fault}' if fault else ''}: {word}")
         return is_well
 
-    pool = concurrent.futures.ThreadPoolExecutor(jobs)  # whose threads stay, as the processes end with those that started them
+    turns, room = threading.BoundedSemaphore(jobs), tempfile.mkdtemp(dir=folder)
+    pool = concurrent.futures.ThreadPoolExecutor(2 * jobs)  # whose threads stay, as the processes end with those that started them
     try:
-        found = [is_well for is_well in pool.map(make, enumerate(drawn(count, seed, values))) if is_well is not None]
+        found = [is_well for is_well in pool.map(make, enumerate(drawn(count, seed, values, kinds))) if is_well is not None]
     finally:
         pool.shutdown(cancel_futures=True)  # where somebody ends it
+        shutil.rmtree(room)
     return len(found), all(found)

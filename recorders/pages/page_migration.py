@@ -1,5 +1,7 @@
 """One migration on this machine, recorded by page contents: of the test guest, of Debian's Linux, or of a guest that is started by any words."""
+import fcntl
 import os
+import shlex
 import shutil
 import threading
 import time
@@ -39,6 +41,7 @@ class Settings(Plan):
     seconds: float = 1.0  # before the migration
     is_linux: bool = False
     has_balloon: bool = False  # Linux reports free pages, and gives a quarter of its memory back in pre-copy
+    booted: str = ""  # a file from which Linux goes on once it has booted there. The first of its migrations makes it
     is_tracking: bool = False
     tls: str = ""  # one of page_tls.KINDS, or nothing
     is_bare: bool = False  # neither observer is there, and nothing is recorded
@@ -46,6 +49,9 @@ class Settings(Plan):
 
 
 class Migration:
+    is_asked = False  # whether the emulator was asked already if it can
+    is_booting = False  # a guest that is kept in a file
+
     def __init__(self, settings, folder, emulator, say):
         self.settings, self.folder, self.emulator, self.say = settings, folder, emulator, say
         self.room, self.machines, self.relay, self.recovered = None, {}, None, 0
@@ -55,7 +61,7 @@ class Migration:
         if os.path.lexists(self.folder):
             raise build.Missing(f"{self.folder} is there: name a new folder")
         build.require_tools()
-        if not self.settings.command:
+        if not (self.settings.command or self.is_asked):
             self.emulator.require(self.settings, build.build()[1])
         os.makedirs(self.folder)
         self.make_guest()
@@ -90,6 +96,24 @@ class Migration:
                     "-serial", f"file:{told}", "-kernel", f"{self.guest}/vmlinuz", "-initrd", f"{self.folder}/initrd", "-append", f"{WORDS} {settings.workload}"]
         return settings.command or [*words_of_test_guest(self.emulator, self.guest, accelerator, told), *memory(settings)]
 
+    def boot(self):
+        """Has the guest go on from a file, and makes that by pre-copy if it is missing. Returns the words for the source."""
+        path = self.settings.booted
+        with open(f"{path}.lock", "w", encoding="ascii") as lock:
+            fcntl.flock(lock, fcntl.LOCK_EX)
+            if not os.path.exists(path):
+                booting, self.is_booting = self.start("source"), True
+                self.warm_up()
+                booting("migrate-set-parameters", **{"max-bandwidth": 0, "downtime-limit": LONGEST_DOWNTIME})
+                booting("migrate", uri=f"exec:cat > {shlex.quote(path)}.new")
+                has_ended = wait_until(lambda: self.stands("source") in ENDED, seconds=SECONDS) and self.stands("source") == "completed"
+                self.machines.pop("source").end()
+                if not has_ended:
+                    raise build.Missing(f"the guest cannot be kept in {path}")
+                os.rename(f"{path}.new", path)
+                self.is_booting = False
+        return "-incoming", f"exec:cat {shlex.quote(path)}"
+
     def start(self, side, *extra, **environment):
         self.machines[side] = Running(side, self.room, [*self.words(side), *extra], **environment)
         return self.machines[side].qmp
@@ -98,9 +122,10 @@ class Migration:
         settings = self.settings
         if settings.tls:
             page_tls.make(settings.tls, self.room.path)
+        going_on = self.boot() if settings.booted else ()
         self.start("target", "-incoming", "defer", *["-S"] * settings.is_precopy, *page_tls.words(settings.tls, self.room.path, "server"),
                    **({} if settings.is_bare or settings.is_precopy else prepare(f"{self.folder}/target", key, settings.is_tracking)))
-        self.start("source", "-qmp", f"unix:{self.room.name('watch')},server=on,wait=off", *page_tls.words(settings.tls, self.room.path, "client"))
+        self.start("source", "-qmp", f"unix:{self.room.name('watch')},server=on,wait=off", *going_on, *page_tls.words(settings.tls, self.room.path, "client"))
         if settings.is_bare:
             return self.move()
         faults = []
@@ -153,12 +178,12 @@ class Migration:
         return self.follow()
 
     def blow_up(self):
-        """Asks the guest for a quarter of its memory, and waits until it gives some."""
+        """Asks the guest for a quarter of its memory, but for a DIMM's, which it may not use; and waits until it gives some."""
         def left():
             return source("query-balloon")["actual"]
 
         source, before = self.machines["source"].qmp, self.machines["source"]("query-balloon")["actual"]
-        source("balloon", value=before * 3 // 4)
+        source("balloon", value=before - (self.settings.ram << 20) // 4)
         if not wait_until(lambda: left() < before, seconds=SECONDS_FOR_LAST):
             raise build.Missing("the guest's balloon does not move")
         self.say(f"the guest has given {before - left() >> 10} KiB of its memory back")
@@ -173,6 +198,8 @@ class Migration:
         path = f"{self.folder}/source.console"
         if self.machines["source"].stands()[1] == "internal-error":
             raise build.Missing("the guest has stopped by itself: this machine's KVM cannot run it")
+        if self.settings.booted and not self.is_booting:
+            return self.machines["source"].stands()[1] == "running"
         if not self.settings.is_linux:
             return os.path.getsize(path) > self.settings.pages * BYTES_OF_ACCESS
         with open(path, encoding="utf-8", errors="replace") as console:

@@ -15,6 +15,8 @@ QEMU_NAMESPACE = "http://libvirt.org/schemas/domain/qemu/1.0"
 LIBVIRT_USERS = ("libvirt-qemu", "qemu")
 LIBRARY, MEANS, BLOCKS = "pages.so", "README", "blocks"
 FOLDER_VARIABLE, KEY_VARIABLE, TRACK_VARIABLE = "POSTCOPY_PAGES", "POSTCOPY_PAGES_KEY", "POSTCOPY_PAGES_TRACK"
+RULES = "/etc/apparmor.d/abstractions/libvirt-qemu", "/etc/apparmor.d/local/abstractions/libvirt-qemu", "/etc/apparmor.d/abstractions/libvirt-qemu.d/*"
+IN_RULE = {"@{PROC}": "/proc", "@{pid}": "[0-9]+", "@{pids}": "[0-9]+", "**": ".*", "*": "[^/]*", "?": "[^/]", "{": "(?:", ",": "|", "}": ")"}  # what AppArmor's words match
 BYTES_OF_PAGE = 90  # of the records of a page, at each side
 UNITS = {"": 10, "B": 0, "BYTES": 0, "K": 10, "KB": 10, "KIB": 10, "M": 20, "MB": 20, "MIB": 20, "G": 30, "GB": 30, "GIB": 30, "T": 40, "TIB": 40}
 ON_FOLDER = """This folder has one side of a post-copy migration, recorded by the contents of pages. `recorders/qemu/pages audit TARGET SOURCE`
@@ -100,15 +102,26 @@ def obstacles(folder, memory, user):
                 yield f"{user.pw_name} cannot go through {part} to {folder}: chmod o+x {part}, or name a folder elsewhere"
 
 
-def remarks(folder):
-    """Yields what may be in the way, and cannot be seen from here."""
+def remarks(folder, root=""):
+    """Yields what may be in the way: what no rule for emulators allows, where AppArmor is on."""
     try:
-        with open("/sys/module/apparmor/parameters/enabled", encoding="ascii") as file:
-            if file.read().strip() == "Y":
-                yield ("AppArmor is on. An emulator under a profile needs, in /etc/apparmor.d/local/abstractions/libvirt-qemu: "
-                       f"{folder}/** rwm, and @{{PROC}}/@{{pid}}/{{smaps,pagemap}} r,")
+        with open(f"{root}/sys/module/apparmor/parameters/enabled", encoding="ascii") as file:
+            is_on = file.read().strip() == "Y"
     except OSError:
-        pass
+        is_on = False
+    rules = [rule for path in RULES for name in sorted(glob(f"{root}{path}")) for rule in rules_of(name)] if is_on else []
+    needed = {f"{folder}/** rwm,": [(f"{folder}/{LIBRARY}", "m"), (f"{folder}/pager.1.0", "w")], "@{PROC}/@{pid}/{smaps,pagemap} r,": [("/proc/1/smaps", "r"), ("/proc/1/pagemap", "r")]}
+    lacks = [line for line, uses in needed.items() if is_on and not all(any(path.fullmatch(name) and use in allowed for path, allowed in rules) for name, use in uses)]
+    if lacks:
+        yield f"AppArmor is on, and an emulator under a profile needs, in {RULES[1]}: {' and '.join(lacks)}"
+
+
+def rules_of(path):
+    """Yields the rules for files of a profile: what names match, and what may be done with them."""
+    with open(path, encoding="utf-8", errors="replace") as file:
+        for name, allowed in re.findall(r"^\s*(?:owner\s+)?([/@]\S*)\s+([a-zA-Z]+)\s*,", file.read(), re.MULTILINE):
+            parts = re.split(r"(@\{PROC\}|@\{pids?\}|\*\*|[*?{},])", name)
+            yield re.compile("".join(IN_RULE.get(part, re.escape(part)) for part in parts)), allowed
 
 
 # libvirt

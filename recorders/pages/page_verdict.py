@@ -1,7 +1,9 @@
 """What the program says of both sides of a recording by page contents, with the places of pages in QEMU's memory."""
 import bisect
+import glob
 import json
 import os
+import re
 import subprocess
 import tempfile
 from dataclasses import dataclass
@@ -14,6 +16,7 @@ from page_target import BLOCKS
 PAGE = 4096
 MOST_TOLD = 10
 NOTHING = ", where the source had nothing"
+FIRST_SEND = 2  # the number of page 0's `send`, as pages.h has it
 
 
 @dataclass
@@ -71,12 +74,15 @@ def ask(*words):
 
 @dataclass
 class Verdict:
-    """What was found: the program's verdict, what it tells, whether both recordings were whole, and the places of the pages that it tells of."""
+    """What was found: the program's verdict, what it tells, whether both recordings were whole, the places of the pages that it tells of, in how
+    many of these the source had nothing, and the places of those that were refused, where post-copy broke off."""
     word: str
     told: list
     is_whole: bool
     places: tuple = ()
     pages: int = 0
+    nothing: int = 0
+    refused: tuple = ()
     unwritten: int = -1  # -1: writes were not tracked
 
     @property
@@ -106,10 +112,18 @@ def judged(target, source):
             if status:
                 raise build.Missing(why.strip() or said.strip())
         said = [] if is_whole else [line[9:] for line in said.splitlines()[:-1]]  # but for what `session` is told to do
-        return verdict_of(f"{room}/session", blocks, is_whole, said, lambda pages: absent_among(pages, source))
+        refused = [] if is_whole else [(page, place_of(page, blocks)) for page in refused_at(target)]
+        said += [f"page {page}, {place}: it came when it was there already, and was refused" for page, place in refused]
+        return verdict_of(f"{room}/session", blocks, is_whole, said, [place for _, place in refused], lambda pages: absent_among(pages, source))
 
 
-def verdict_of(session, blocks, is_whole, said, absent):
+def refused_at(target):
+    """Returns the pages that the kernel did not put in place, since they were there."""
+    texts = (text for path in sorted(glob.glob(f"{glob.escape(target)}/pager.*")) for text in ["\n".join(lines(path))])
+    return [int(send) - FIRST_SEND for text in texts for _, send in re.findall(r"^(\d+) got-sent (\d+)\n\d+ skip \1$", text, re.MULTILINE)]
+
+
+def verdict_of(session, blocks, is_whole, said, refused, absent):
     answer, error, status = ask("audit", "--all", "--format", "json", session)
     if status not in (0, 1):
         raise build.Missing(error.strip())
@@ -124,7 +138,7 @@ def verdict_of(session, blocks, is_whole, said, absent):
     told = [*said, *(f"page {page}, {place}: {reason}{NOTHING if page in nothing else ''}" for (page, reason), place in zip(wrong[:MOST_TOLD], places))]
     if len(wrong) > MOST_TOLD:
         told.append(f"and {len(wrong) - MOST_TOLD} more pages" + (f". Of all {len(wrong)}, the source had nothing in {len(nothing)}: never used, given back, or unplugged" if nothing else ""))
-    return Verdict(word, told, is_whole, tuple(places), pages, unwritten_in(session))
+    return Verdict(word, told, is_whole, tuple(places), pages, len(nothing), tuple(refused), unwritten_in(session))
 
 
 def not_placed_in(session, pages):

@@ -165,6 +165,34 @@ static int mark(const struct block *block, uint64_t bits, uint8_t *marks)
     return error;
 }
 
+/* PAGEMAP_SCAN, which older headers do not have, and older kernels than Linux 6.7. */
+struct scan {
+    uint64_t size, flags, start, end, walk_end, ranges, most, most_pages, inverted, all, any, told;
+};
+struct range {
+    uint64_t start, end, categories;
+};
+#define SCAN _IOWR('f', 16, struct scan)
+#define PRESENT_OR_SWAPPED (3 << 3)
+
+/* Marks the pages of a block that are there, by a scan that passes over what is not. Returns 0 or an errno. */
+static int mark_there(const struct block *block, uint8_t *marks)
+{
+    static struct range ranges[512];
+    struct scan scan = {.size = sizeof scan, .start = block->start, .end = block->start + block->length, .ranges = (uintptr_t)ranges,
+                        .most = sizeof ranges / sizeof *ranges, .any = PRESENT_OR_SWAPPED, .told = PRESENT_OR_SWAPPED};
+    int map = open("/proc/self/pagemap", O_RDONLY | O_CLOEXEC), count;
+    if (map < 0)
+        return errno;
+    while (scan.start < scan.end && (count = call(map, SCAN, &scan)) >= 0) {
+        for (int at = 0; at < count; at++)
+            memset(marks + (ranges[at].start - block->start) / PAGE, 1, (ranges[at].end - ranges[at].start) / PAGE);
+        scan.start = scan.walk_end;
+    }
+    close(map);
+    return scan.start < scan.end ? mark(block, 0, marks) : 0;
+}
+
 struct marked {
     const struct block *block;
     const uint8_t *marks;
@@ -214,7 +242,7 @@ static void look_at(int fd, int at, uint64_t length)
 {
     const struct block *block = &blocks.at[at];
     uint8_t *marks = states + block->first;
-    int error = mark(block, 0, marks);
+    int error = mark_there(block, marks);
     guarded[at] = length;
     if (error) {
         lose("the page map cannot be read", error);

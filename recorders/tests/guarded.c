@@ -1,7 +1,8 @@
 /*
  * A process with two blocks of memory like a QEMU's: 600 private pages, and 40 of a memory file. Its words say what it does.
  *
- *     guarded source ..     fills the pages, and waits for the end of standard input. With `give=P` it gives page P of the first block back
+ *     guarded source ..     fills the pages, and waits for the end of standard input. With `give=P` it gives page P of the first block back, and
+ *                           with `other` its pages hold what those of another guest would
  *     guarded target N ..   fills the first N pages of each block, at most 20 of the second, guards both by userfaultfd, puts the other pages in place, and takes the
  *                           guards away. Each further word is done once, with page P of all pages, the first block's first:
  *
@@ -11,10 +12,13 @@
  *         twice=P    it is put in place twice
  *         write=P    it is written to when all pages are there
  *         die=P      the process is killed before it
+ *         twin       there is a third block, of 40 pages that are private. At the source, `twin=1` has its contents in the second, and the second's in it
+ *         precopy    nothing is guarded: there is no switch
  *         plug       a third block comes: at the source at the beginning, and at the target once the others are guarded
  *         show       the second block's pages are put into the file, and shown two by two by UFFDIO_CONTINUE
  *
- * A page whose number is 3 more than a multiple of 4 is zeros. The last line tells which pages are absent in the end.
+ * As a QEMU does, the target first tries userfaultfd on a page of its own. A page whose number is 3 more than a multiple of 4 is zeros. The last
+ * line tells which pages are absent in the end.
  */
 #define _GNU_SOURCE
 #include <fcntl.h>
@@ -30,10 +34,12 @@
 #include <unistd.h>
 
 #define PAGE 4096UL
-static const uint64_t pages_of[] = {600, 40};
-static char *memory[2], *other; /* `other` is a second mapping of the file */
+static const uint64_t pages_of[] = {600, 40, 40};
+static const int places[] = {200, 100, 900}; /* with pages between the blocks, as QEMU leaves some */
+static char *memory[3], *other; /* `other` is a second mapping of the file */
 static const char *const *words;
-static int is_shown, uffd;
+static int is_shown, uffd, blocks = 2;
+static uint64_t is_other;
 
 static void check(int is_right, const char *what)
 {
@@ -59,7 +65,7 @@ static int is_zeros(long page)
 static void fill(char *at, long page)
 {
     for (uint64_t word = 0; word < PAGE / 8; word++)
-        ((uint64_t *)at)[word] = is_zeros(page) ? 0 : (uint64_t)page * 1000003 + word + 1;
+        ((uint64_t *)at)[word] = is_zeros(page) ? 0 : (uint64_t)page * 1000003 + word + 1 + is_other;
 }
 
 static void put(char *at, long page)
@@ -87,19 +93,36 @@ static struct uffdio_range plugged(void)
     return (struct uffdio_range){(uintptr_t)block, 8 * PAGE};
 }
 
-static void migrate(long left)
+static void open_userfaultfd(void)
 {
     struct uffdio_api api = {.api = UFFD_API, .features = is_shown ? UFFD_FEATURE_MINOR_SHMEM : 0};
     uffd = (int)syscall(SYS_userfaultfd, O_CLOEXEC | O_NONBLOCK);
     check(uffd >= 0 && ioctl(uffd, UFFDIO_API, &api) == 0, "userfaultfd");
-    for (int block = 0; block < 2; block++) {
+}
+
+static void try_userfaultfd(void)
+{
+    struct uffdio_register guard = {.mode = UFFDIO_REGISTER_MODE_MISSING};
+    guard.range = (struct uffdio_range){(uintptr_t)mmap(NULL, PAGE, PROT_READ | PROT_WRITE, MAP_PRIVATE | MAP_ANONYMOUS, -1, 0), PAGE};
+    open_userfaultfd();
+    check(ioctl(uffd, UFFDIO_REGISTER, &guard) == 0 && ioctl(uffd, UFFDIO_UNREGISTER, &guard.range) == 0, "a page of its own");
+    close(uffd);
+}
+
+static void migrate(long left)
+{
+    try_userfaultfd();
+    if (number("precopy") >= 0)
+        return;
+    open_userfaultfd();
+    for (int block = 0; block < blocks; block++) {
         uint64_t mode = is_shown && block ? UFFDIO_REGISTER_MODE_MINOR : UFFDIO_REGISTER_MODE_MISSING;
         struct uffdio_register guard = {{(uintptr_t)memory[block], pages_of[block] * PAGE}, mode, 0};
         check(ioctl(uffd, UFFDIO_REGISTER, &guard) == 0, "UFFDIO_REGISTER");
     }
     if (number("plug") >= 0)
         check(ioctl(uffd, UFFDIO_REGISTER, &(struct uffdio_register){plugged(), UFFDIO_REGISTER_MODE_MISSING, 0}) == 0, "UFFDIO_REGISTER");
-    for (long block = 0, page = 0; block < 2; block++)
+    for (long block = 0, page = 0; block < blocks; block++)
         for (long at = 0; at < (long)pages_of[block]; at++, page++) {
             if (page == number("die="))
                 kill(getpid(), SIGKILL);
@@ -110,7 +133,7 @@ static void migrate(long left)
         }
     if (number("write=") >= 0)
         memory[0][(uint64_t)number("write=") * PAGE] ^= 1;
-    for (int block = 0; block < 2; block++)
+    for (int block = 0; block < blocks; block++)
         check(ioctl(uffd, UFFDIO_UNREGISTER, &(struct uffdio_range){(uintptr_t)memory[block], pages_of[block] * PAGE}) == 0, "UFFDIO_UNREGISTER");
 }
 
@@ -129,17 +152,23 @@ int main(int count, char **word)
     int file = memfd_create("block", MFD_CLOEXEC), is_source = count > 1 && !strcmp(word[1], "source");
     words = (const char *const *)word;
     is_shown = number("show") >= 0;
+    is_other = number("other") >= 0;
     check(file >= 0 && ftruncate(file, (off_t)(pages_of[1] * PAGE)) == 0, "memfd_create");
-    char *room = mmap(NULL, 1000 * PAGE, PROT_NONE, MAP_PRIVATE | MAP_ANONYMOUS, -1, 0); /* with pages between the blocks, as QEMU leaves some */
-    for (int block = 0; block < 2; block++) {
+    char *room = mmap(NULL, 1000 * PAGE, PROT_NONE, MAP_PRIVATE | MAP_ANONYMOUS, -1, 0);
+    blocks += number("twin") >= 0;
+    for (int block = 0; block < blocks; block++) {
         uint64_t length = pages_of[block] * PAGE;
-        memory[block] = mmap(room + (block ? 100 : 200) * PAGE, length, PROT_READ | PROT_WRITE,
-                             MAP_FIXED | (block ? MAP_SHARED : MAP_PRIVATE | MAP_ANONYMOUS), block ? file : -1, 0);
+        memory[block] = mmap(room + places[block] * (int)PAGE, length, PROT_READ | PROT_WRITE,
+                             MAP_FIXED | (block == 1 ? MAP_SHARED : MAP_PRIVATE | MAP_ANONYMOUS), block == 1 ? file : -1, 0);
         check(memory[block] != MAP_FAILED && madvise(memory[block], length, MADV_DONTFORK) == 0, "mmap");
     }
     other = mmap(NULL, pages_of[1] * PAGE, PROT_READ | PROT_WRITE, MAP_SHARED, file, 0);
+    if (number("twin=") > 0) {
+        char *second = memory[1];
+        memory[1] = memory[2], memory[2] = second;
+    }
     long left = count > 2 ? atol(word[2]) : 0;
-    for (long block = 0, page = 0; block < 2; block++)
+    for (long block = 0, page = 0; block < blocks; block++)
         for (long at = 0; at < (long)pages_of[block]; at++, page++)
             if (is_source || at < (block && left > 20 ? 20 : left))
                 fill(memory[block] + (uint64_t)at * PAGE, page);
