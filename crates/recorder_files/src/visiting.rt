@@ -2,11 +2,10 @@
 
 ghost use Rattle.std.specs.Prelude.{◌≡◌, OnOk};
 
-use crate::names::{named_by_guest, named_by_lane, named_by_link, named_by_pager, named_by_source};
+use crate::names::named_by;
 use crate::naming::Naming;
-use recordings::{
-    Visitor, WideGuest, WideInit, WideLane, WideLink, WideMachine, WidePager, WideSource,
-};
+use migration_types::LogName;
+use recordings::{Visitor, Wide, WideInit, WideMachine};
 use std::alloc::AllocError;
 
 impl Visitor for Naming {
@@ -28,33 +27,16 @@ impl Visitor for Naming {
         Ok(())
     }
 
-    fn guest(&mut self, number: u64, rec: WideGuest) -> Result<(), AllocError> {
+    fn record(&mut self, number: u64, rec: Wide) -> Result<(), AllocError> {
         let _ = number;
-        self.guest.note(named_by_guest(&rec))?;
-        Ok(())
-    }
-
-    fn source(&mut self, number: u64, rec: WideSource) -> Result<(), AllocError> {
-        let _ = number;
-        self.source.note(named_by_source(&rec))?;
-        Ok(())
-    }
-
-    fn link(&mut self, number: u64, rec: WideLink) -> Result<(), AllocError> {
-        let _ = number;
-        self.link.note(named_by_link(&rec))?;
-        Ok(())
-    }
-
-    fn lane(&mut self, number: u64, rec: WideLane) -> Result<(), AllocError> {
-        let _ = number;
-        self.lane.note(named_by_lane(&rec))?;
-        Ok(())
-    }
-
-    fn pager(&mut self, number: u64, rec: WidePager) -> Result<(), AllocError> {
-        let _ = number;
-        self.pager.note(named_by_pager(&rec))?;
+        let named = named_by(&rec);
+        match rec.log() {
+            LogName::Guest => self.guest.note(named)?,
+            LogName::Source => self.source.note(named)?,
+            LogName::Link => self.link.note(named)?,
+            LogName::Lane => self.lane.note(named)?,
+            LogName::Pager => self.pager.note(named)?,
+        }
         Ok(())
     }
 }

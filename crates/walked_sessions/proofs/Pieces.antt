@@ -103,12 +103,13 @@ meets_more start known next front pages old mid new pushed fault s more e stands
       holds = subst (Holds start next new) (sym draft) all;
     }
 
+-- nothing is appended, since the record has no place in the text
+pub meets_past : (start known : Option (List ℕ)) (front : Front) (pages : ℕ) (t : Text) (s more : Recorded) → draft_of t.init (cursors_of front) more ≡ draft_of t.init (cursors_of front) s → MeetsWell start front pages known t s → MeetsWell start front pages known t more
+meets_past start known front pages t s more is m = record { front = m.front; init = m.init; holds = subst (Holds start known t) (sym is) m.holds }
+
 pub none_of : {A : Type 0} (o : Option A) → false ≡ is_some o → o ≡ None
 none_of None e = refl
 none_of (Some x) e = absurd (cc)
-
-pub below : (a b n number : ℕ) → a ≡ b → n ≡ number → number < a → n < b
-below a b n number e f lt = omega arith
 
 pub any_ok : {T E P : Type 0} (r : Result T E) → P → OnOk r P
 any_ok (Ok x) p = p

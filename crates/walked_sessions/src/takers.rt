@@ -7,7 +7,7 @@ ghost use Rattle.walked_sessions.specs.inner.Passing.{IsNotNext, Passes};
 
 use crate::cursors::Cursor;
 use recorder_files::{RawPager, RawSource, RecordTaker, TakeRefusal};
-use recordings::{Visitor, WideGuest, WideLane, WideLink};
+use recordings::{Visitor, Wide, WideGuest, WideLane, WideLink};
 
 /// The guest's records.
 #[derive(Clone, Copy)]
@@ -19,7 +19,7 @@ impl<V: Visitor> RecordTaker<WideGuest, V> for GuestTaker {
     ghost IsUnfit = { λ taker number rec. ⊥ };
 
     fn take(&mut self, onto: &mut V, number: u64, rec: WideGuest) -> Result<(), TakeRefusal> {
-        match onto.guest(number, rec) {
+        match onto.record(number, Wide::Guest(rec)) {
             Ok(()) => Ok(()),
             Err(_) => Err(TakeRefusal::Memory),
         }
@@ -39,7 +39,7 @@ impl<'a, V: Visitor> RecordTaker<RawSource, V> for SourceTaker<'a> {
 
     fn take(&mut self, onto: &mut V, number: u64, rec: RawSource) -> Result<(), TakeRefusal> {
         let up = self.link.pass(rec.request(number))?;
-        match onto.source(number, rec.numbered(up)) {
+        match onto.record(number, Wide::Source(rec.numbered(up))) {
             Ok(()) => Ok(()),
             Err(_) => Err(TakeRefusal::Memory),
         }
@@ -63,7 +63,7 @@ impl<V: Visitor> RecordTaker<WideLink, V> for LinkTaker {
             return Err(TakeRefusal::Unfit);
         }
         self.is_met = true;
-        match onto.link(number, rec) {
+        match onto.record(number, Wide::Link(rec)) {
             Ok(()) => Ok(()),
             Err(_) => Err(TakeRefusal::Memory),
         }
@@ -87,7 +87,7 @@ impl<V: Visitor> RecordTaker<WideLane, V> for LaneTaker {
             return Err(TakeRefusal::Unfit);
         }
         self.is_met = true;
-        match onto.lane(number, rec) {
+        match onto.record(number, Wide::Lane(rec)) {
             Ok(()) => Ok(()),
             Err(_) => Err(TakeRefusal::Memory),
         }
@@ -113,7 +113,7 @@ impl<'a, V: Visitor> RecordTaker<RawPager, V> for PagerTaker<'a> {
         };
         self.count = count;
         let down = pass_either(&mut self.link, &mut self.lane, number, &rec)?;
-        match onto.pager(number, rec.numbered(down)) {
+        match onto.record(number, Wide::Pager(rec.numbered(down))) {
             Ok(()) => Ok(()),
             Err(_) => Err(TakeRefusal::Memory),
         }

@@ -17,7 +17,7 @@ use crate::noting::Messages;
 use crate::takers::{GuestTaker, LaneTaker, LinkTaker, PagerTaker, SourceTaker};
 use migration_types::LogName;
 use recorder_files::{Delivered, Message, RawPager, RawSource};
-use recordings::{Visitor, WideGuest, WideInit, WideLane, WideLink, WideMachine};
+use recordings::{Visitor, Wide, WideGuest, WideInit, WideLane, WideLink, WideMachine};
 use std::alloc::{AllocError, Global};
 
 /// Meets an initial page.
@@ -153,7 +153,7 @@ fn walk_link_deliveries<V: Visitor>(
     ensures { OnOk result ((d : Recorded) → BeforeLane d → d.link ≡ [] → V.Met visitor.old d → V.Met visitor.new (with_link_log d (map link_delivery deliveries.now))) }
 {
     for i in 0..deliveries.len() {
-        visitor.link(i as u64, link_delivery(deliveries[i]))?;
+        visitor.record(i as u64, Wide::Link(link_delivery(deliveries[i])))?;
     }
     Ok(())
 }
@@ -212,7 +212,7 @@ fn walk_lane_deliveries<V: Visitor>(
     ensures { OnOk result ((d : Recorded) → BeforePager d → d.lane ≡ [] → V.Met visitor.old d → V.Met visitor.new (with_lane_log d (map lane_delivery deliveries.now))) }
 {
     for i in 0..deliveries.len() {
-        visitor.lane(i as u64, lane_delivery(deliveries[i]))?;
+        visitor.record(i as u64, Wide::Lane(lane_delivery(deliveries[i])))?;
     }
     Ok(())
 }
