@@ -2,9 +2,7 @@
 
 ghost use Rattle.std.specs.Prelude.{◌≡◌, OnOk};
 
-use crate::names::named_by;
 use crate::naming::Naming;
-use migration_types::LogName;
 use recordings::{Visitor, Wide, WideInit, WideMachine};
 use std::alloc::AllocError;
 
@@ -29,14 +27,6 @@ impl Visitor for Naming {
 
     fn record(&mut self, number: u64, rec: Wide) -> Result<(), AllocError> {
         let _ = number;
-        let named = named_by(&rec);
-        match rec.log() {
-            LogName::Guest => self.guest.note(named)?,
-            LogName::Source => self.source.note(named)?,
-            LogName::Link => self.link.note(named)?,
-            LogName::Lane => self.lane.note(named)?,
-            LogName::Pager => self.pager.note(named)?,
-        }
-        Ok(())
+        self.note(&rec)
     }
 }
