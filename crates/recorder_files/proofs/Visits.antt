@@ -45,9 +45,12 @@ with_reach naming Link new = record { guest = naming.guest; source = naming.sour
 with_reach naming Lane new = record { guest = naming.guest; source = naming.source; link = naming.link; lane = new; pager = naming.pager }
 with_reach naming Pager new = record { guest = naming.guest; source = naming.source; link = naming.link; lane = naming.lane; pager = new }
 
-pub met_record : (naming : Naming) (new : Reach) (d : Recorded) (rec : Wide) (named : Option Name) → named ≡ named_first (wide_row rec).fields → IsNaming naming d → ((names : List (Option Name)) → IsReach (reach_of naming (log_of rec)) names → IsReach new (names ++ named ∷ [])) → IsNaming (with_reach naming (log_of rec) new) (with_record d rec)
-met_record naming new d (wide.Guest r) named e is more = record { guest = one_more new (λ x. named_first (guest_row x).fields) d.guest (guest_of r) named e (more (names_in d Guest) is.guest); source = is.source; link = is.link; lane = is.lane; pager = is.pager }
-met_record naming new d (wide.Source r) named e is more = record { guest = is.guest; source = one_more new (λ x. named_first (source_row x).fields) d.source (source_of r) named e (more (names_in d Source) is.source); link = is.link; lane = is.lane; pager = is.pager }
-met_record naming new d (wide.Link r) named e is more = record { guest = is.guest; source = is.source; link = one_more new (λ x. named_first (link_row x).fields) d.link (link_of r) named e (more (names_in d Link) is.link); lane = is.lane; pager = is.pager }
-met_record naming new d (wide.Lane r) named e is more = record { guest = is.guest; source = is.source; link = is.link; lane = one_more new (λ x. named_first (lane_row x).fields) d.lane (lane_of r) named e (more (names_in d Lane) is.lane); pager = is.pager }
-met_record naming new d (wide.Pager r) named e is more = record { guest = is.guest; source = is.source; link = is.link; lane = is.lane; pager = one_more new (λ x. named_first (pager_row x).fields) d.pager (pager_of r) named e (more (names_in d Pager) is.pager) }
+met_at : (naming : Naming) (new : Reach) (d : Recorded) (rec : Wide) (named : Option Name) → named ≡ named_first (wide_row rec).fields → IsNaming naming d → ((names : List (Option Name)) → IsReach (reach_of naming (log_of rec)) names → IsReach new (names ++ named ∷ [])) → IsNaming (with_reach naming (log_of rec) new) (with_record d rec)
+met_at naming new d (wide.Guest r) named e is more = record { guest = one_more new (λ x. named_first (guest_row x).fields) d.guest (guest_of r) named e (more (names_in d Guest) is.guest); source = is.source; link = is.link; lane = is.lane; pager = is.pager }
+met_at naming new d (wide.Source r) named e is more = record { guest = is.guest; source = one_more new (λ x. named_first (source_row x).fields) d.source (source_of r) named e (more (names_in d Source) is.source); link = is.link; lane = is.lane; pager = is.pager }
+met_at naming new d (wide.Link r) named e is more = record { guest = is.guest; source = is.source; link = one_more new (λ x. named_first (link_row x).fields) d.link (link_of r) named e (more (names_in d Link) is.link); lane = is.lane; pager = is.pager }
+met_at naming new d (wide.Lane r) named e is more = record { guest = is.guest; source = is.source; link = is.link; lane = one_more new (λ x. named_first (lane_row x).fields) d.lane (lane_of r) named e (more (names_in d Lane) is.lane); pager = is.pager }
+met_at naming new d (wide.Pager r) named e is more = record { guest = is.guest; source = is.source; link = is.link; lane = is.lane; pager = one_more new (λ x. named_first (pager_row x).fields) d.pager (pager_of r) named e (more (names_in d Pager) is.pager) }
+
+pub met_record : (naming : Naming) (new : Reach) (d : Recorded) (rec : Wide) (named : Option Name) (log : LogName) → log ≡ log_of rec → named ≡ named_first (wide_row rec).fields → IsNaming naming d → ((names : List (Option Name)) → IsReach (reach_of naming log) names → IsReach new (names ++ named ∷ [])) → IsNaming (with_reach naming log new) (with_record d rec)
+met_record naming new d rec named log at e is = subst (λ (l : LogName). ((names : List (Option Name)) → IsReach (reach_of naming l) names → IsReach new (names ++ named ∷ [])) → IsNaming (with_reach naming l new) (with_record d rec)) (sym at) (met_at naming new d rec named e is)
