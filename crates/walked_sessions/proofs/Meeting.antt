@@ -82,13 +82,13 @@ source_none Met t v = record {
   met = λ d before none met deliveries count are. ([], numbered_none numbered_source (IsUp deliveries count), subst (λ rs. Met v (with_sources d rs)) none met);
 }
 
-pub source_more : {V : Type 0} (Met : V → Recorded → Type 0) (first before after : SourceTaker) (from was now : V) (records : List RawSource) (raw : RawSource) (number up : ℕ) (rec : SourceRec) (message : Option Message) → number ≡ length records → message ≡ request number raw → Passes before.link after.link message up → rec ≡ numbered_source up raw → ((d : Recorded) → BeforeLink d → length d.source ≡ number → Met was d → Met now (with_source d rec)) → MeetsSource Met first from before was records → MeetsSource Met first from after now (records ++ raw ∷ [])
+pub source_more : {V : Type 0} (Met : V → Recorded → Type 0) (first before after : SourceTaker) (from was now : V) (records : List RawSource) (raw : RawSource) (number up : ℕ) (rec : SourceRec) (message : Option Message) → number ≡ length records → message ≡ request number raw → Passes before.link after.link message up → rec ≡ numbered_source up raw → ((d : Recorded) → BeforeLink d × (length d.source ≡ number) → Met was d → Met now (with_source d rec)) → MeetsSource Met first from before was records → MeetsSource Met first from after now (records ++ raw ∷ [])
 source_more Met first before after from was now records raw number up rec message e takes passes is next meets = record {
   passed = subst (HasPassed first.link after.link) (kept request number records raw (told_from request 0 records) (told_from request 0 records ++ option_to_list message) message e refl takes refl) (has_passed_more first.link before.link after.link (told_from request 0 records) message up meets.passed passes);
   met = λ d bef none start deliveries count are.
       let w = meets.met d bef none start deliveries count are in
       let numbered : IsUp deliveries count number raw up = subst (λ o. IfSome o (λ m. IsNumberOf deliveries count m up)) takes (passes.numbered deliveries count (are_numbers_there first.link before.link (told_from request 0 records) deliveries count meets.passed are)) in
-      (w.0 ++ rec ∷ [], numbered_more numbered_source (IsUp deliveries count) records w.0 raw rec number up e numbered is w.1, next (with_sources d w.0) bef (w.1.many ∙ sym e) w.2);
+      (w.0 ++ rec ∷ [], numbered_more numbered_source (IsUp deliveries count) records w.0 raw rec number up e numbered is w.1, next (with_sources d w.0) (bef, w.1.many ∙ sym e) w.2);
 }
 
 -- ---- the link and the lane

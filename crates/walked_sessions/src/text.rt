@@ -225,9 +225,8 @@ impl Text {
         ensures stands { (before : List ℕ) (d : SessionDraft) → Stands before self.old d → OnOk result (Stands before self.new (and_record d rec.now)) }
         ensures same { OnOk result (IsSame self.old self.new) }
     {
-        let log = rec.log();
-        self.reach(log)?;
-        self.take(list_of(log))?;
+        self.reach(rec.log())?;
+        self.take(list_of(rec.log()))?;
         let Ok(()) = rec.push(&mut self.bytes) else {
             return Err(PushFault::Memory);
         };

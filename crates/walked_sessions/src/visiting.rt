@@ -181,10 +181,9 @@ impl<'a, W: Write, B: Begun> Visitor for TextWriter<'a, W, B> {
     }
 
     fn record(&mut self, number: u64, rec: Wide) -> Result<(), AllocError> {
-        let log = rec.log();
         if self.fault.is_some()
-            || number >= self.text.front.of(log)
-            || !log.is_in(self.text.version)
+            || number >= self.text.front.of(rec.log())
+            || !rec.log().is_in(self.text.version)
         {
             return Ok(());
         }
