@@ -1,5 +1,6 @@
 -- What was met of a recording, cut to a front.
-use Rattle.std.proofs.Common.{◌≡◌, ℕ, ◌<◌, ◌≤◌, ◌⊎◌, inl, inr, List, [], ◌∷◌, ◌++◌, length, take, refl, sym, ap, ◌∙◌, length-append, arith}
+use Rattle.std.specs.Prelude.{◌↔◌, IsTrue}
+use Rattle.std.proofs.Common.{◌≡◌, Bool, true, false, subst, ℕ, ◌<◌, ◌≤◌, ◌⊎◌, inl, inr, List, [], ◌∷◌, ◌++◌, length, take, refl, sym, ap, ◌∙◌, length-append, arith}
 use Rattle.std.proofs.lemmas.Bool.{cases_lt}
 use Rattle.std.proofs.lemmas.List.{length-take, take-append-le, take_all}
 use Rattle.migration_types.specs.declared.records.GuestRec.{GuestRec}
@@ -7,6 +8,7 @@ use Rattle.migration_types.specs.declared.records.SourceRec.{SourceRec}
 use Rattle.migration_types.specs.declared.records.LinkRec.{LinkRec}
 use Rattle.migration_types.specs.declared.records.LaneRec.{LaneRec}
 use Rattle.migration_types.specs.declared.records.PagerRec.{PagerRec}
+use Rattle.migration_types.specs.declared.records.LogName.{LogName}
 use Rattle.migration_types.specs.declared.records.LogName.TheVariants.{Guest, Source, Link, Lane, Pager}
 use Rattle.migration_types.specs.declared.version.Version.{Version}
 use Rattle.migration_types.specs.declared.version.Version.TheVariants.{One, Two}
@@ -59,6 +61,19 @@ reached n number most is none = go (cases_lt number most)
 
 below : (n number most : ℕ) → n ≡ number → number < most → n < most
 below n number most is lt = omega arith
+
+pub in_front : (there front : Front) (log of : LogName) (n : ℕ) → n ≡ cursors_of there log → log ≡ of → there ≡ front → n ≡ cursors_of front of
+in_front there front log of n is at same = is ∙ (ap (cursors_of there) at ∙ ap (λ f. cursors_of f of) same)
+
+pub above : (n most number : ℕ) → n ≡ most → n ≤ number → number < most → ⊥
+above n most number is le lt = omega (arith, is, le, lt)
+
+-- whether the version has the log
+pub has_log : (version of : Version) (log name : LogName) (is_in : Bool) → version ≡ of → log ≡ name → IsTrue is_in ↔ HasLog of log → is_in ≡ true → HasLog version name
+has_log version of log name is_in same at has there = subst (λ v. HasLog v name) (sym same) (subst (HasLog of) at (has.0 there))
+
+pub has_no_log : (version of : Version) (log name : LogName) (is_in : Bool) → version ≡ of → log ≡ name → IsTrue is_in ↔ HasLog of log → is_in ≡ false → HasLog version name → ⊥
+has_no_log version of log name is_in same at has missing is = let there : is_in ≡ true = has.1 (subst (HasLog of) (sym at) (subst (λ v. HasLog v name) same is)) in absurd (cc)
 
 module _ (init : ℕ) (c : Cursors) (s : Recorded) (number : ℕ) where
   abbrev d : SessionDraft

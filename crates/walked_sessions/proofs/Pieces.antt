@@ -4,7 +4,7 @@ use Rattle.std.proofs.lemmas.List.{append-nil, take-append-drop}
 use Rattle.std.proofs.Math.Seq.{take-append_seam}
 use Rattle.text_access.specs.Written.{Gains}
 use Rattle.text_access.proofs.Fronts.{both_gain}
-use Rattle.std.specs.Prelude.{Result, Ok, Err, OnOk, IsOk, false}
+use Rattle.std.specs.Prelude.{Result, Ok, Err, OnOk, IsOk, true, false}
 use Rattle.std.specs.Option.{is_some}
 use Rattle.std.specs.Io.KnownBytes.{Appends}
 use Rattle.std.proofs.KnownBytes.{Appends-nil, Appends-trans, Appends-kept}
@@ -110,6 +110,10 @@ meets_past start known front pages t s more is m = record { front = m.front; ini
 pub none_of : {A : Type 0} (o : Option A) → false ≡ is_some o → o ≡ None
 none_of None e = refl
 none_of (Some x) e = absurd (cc)
+
+pub some_of : {A : Type 0} (o : Option A) → true ≡ is_some o → o ≡ None → ⊥
+some_of None e is = absurd (cc)
+some_of (Some x) e is = absurd (cc)
 
 pub any_ok : {T E P : Type 0} (r : Result T E) → P → OnOk r P
 any_ok (Ok x) p = p
