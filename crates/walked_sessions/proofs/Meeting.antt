@@ -16,8 +16,7 @@ use Rattle.recorder_files.specs.declared.raw.RawSource.{RawSource}
 use Rattle.recorder_files.specs.declared.raw.RawPager.{RawPager}
 use Rattle.recorder_files.specs.Told.{lane_packet, link_packet, numbered_pager, numbered_source, request, told_from}
 use Rattle.recorder_files.proofs.Noted.{kept}
-use Rattle.walked_sessions.specs.declared.takers.LinkTaker.{LinkTaker}
-use Rattle.walked_sessions.specs.declared.takers.LaneTaker.{LaneTaker}
+use Rattle.walked_sessions.specs.declared.takers.CarrierTaker.{CarrierTaker}
 use Rattle.walked_sessions.specs.declared.takers.SourceTaker.{SourceTaker}
 use Rattle.walked_sessions.specs.declared.takers.PagerTaker.{PagerTaker}
 use Rattle.walked_sessions.specs.Walks.{AreNumbered, IsDown, IsNumberOf, IsUp}
@@ -93,7 +92,7 @@ source_more Met first before after from was now records raw number up rec messag
 
 -- ---- the link and the lane
 
-pub link_none : {V : Type 0} (Met : V → Recorded → Type 0) (t : LinkTaker) (v : V) → t.is_met ≡ false → MeetsLink Met t v t v []
+pub link_none : {V : Type 0} (Met : V → Recorded → Type 0) (t : CarrierTaker) (v : V) → t.is_met ≡ false → MeetsLink Met t v t v []
 link_none Met t v none_met = record {
   told = refl;
   none = λ e. refl;
@@ -101,7 +100,7 @@ link_none Met t v none_met = record {
   met = λ d before none met. subst (λ ls. Met v (record { version = d.version; geometry = d.geometry; init = d.init; guest = d.guest; source = d.source; link = ls; lane = d.lane; pager = d.pager })) none met;
 }
 
-pub lane_none : {V : Type 0} (Met : V → Recorded → Type 0) (t : LaneTaker) (v : V) → t.is_met ≡ false → MeetsLane Met t v t v []
+pub lane_none : {V : Type 0} (Met : V → Recorded → Type 0) (t : CarrierTaker) (v : V) → t.is_met ≡ false → MeetsLane Met t v t v []
 lane_none Met t v none_met = record {
   told = refl;
   none = λ e. refl;

@@ -25,8 +25,7 @@ use Rattle.recorder_files.specs.Logs.{Gathering, IsGatherFault}
 use Rattle.recorder_files.specs.Records.{IsLogFault, IsTakingFault}
 use Rattle.walked_sessions.specs.declared.files.WalkFault.{WalkFault}
 use Rattle.walked_sessions.specs.declared.files.WalkFault.TheVariants.{Log, OwnLog, Changed, Memory}
-use Rattle.walked_sessions.specs.declared.takers.LinkTaker.{LinkTaker}
-use Rattle.walked_sessions.specs.declared.takers.LaneTaker.{LaneTaker}
+use Rattle.walked_sessions.specs.declared.takers.CarrierTaker.{CarrierTaker}
 use Rattle.walked_sessions.specs.Faults.{HasFault, HasLogFault, IsNoteFault, IsOpenFault, IsWalkFault}
 use Rattle.walked_sessions.specs.Walks.{Bytes, IsOwnLog}
 use Rattle.walked_sessions.specs.inner.Meeting.{MeetsLane, MeetsLink}
@@ -108,7 +107,7 @@ guest_fault Takes machine bytes messages taker from unfit fault (inl plain) = pl
 guest_fault Takes machine bytes messages taker from unfit fault (inr refused) = absurd refused.1.at.unfit
 
 -- the link has records of its own
-pub link_fault : {V : Type 0} (Met : V → Recorded → Type 0) (machine : WideMachine) (bytes : Bytes) (messages : Delivered) (first : LinkTaker) (from : V) (unfit fault : WalkFault) → first.is_met ≡ false → (messages.link_messages.items ≡ [] → first.is_told ≡ false) → ((messages.link_messages.items ≡ [] → ⊥) → IsTakingOne Link messages.link_messages.items unfit) → IsTakeFault (λ r. link_line (link_of r)) (λ r. IsLinkRecOf (link_of r)) (MeetsLink Met) (λ taker n rec. taker.is_told ≡ true) Link (Of Link) (bytes Link) first from unfit fault → IsWalkFault machine bytes messages fault
+pub link_fault : {V : Type 0} (Met : V → Recorded → Type 0) (machine : WideMachine) (bytes : Bytes) (messages : Delivered) (first : CarrierTaker) (from : V) (unfit fault : WalkFault) → first.is_met ≡ false → (messages.link_messages.items ≡ [] → first.is_told ≡ false) → ((messages.link_messages.items ≡ [] → ⊥) → IsTakingOne Link messages.link_messages.items unfit) → IsTakeFault (λ r. link_line (link_of r)) (λ r. IsLinkRecOf (link_of r)) (MeetsLink Met) (λ taker n rec. taker.is_told ≡ true) Link (Of Link) (bytes Link) first from unfit fault → IsWalkFault machine bytes messages fault
 link_fault Met machine bytes messages first from unfit fault unmet empty taking (inl plain) = plain_fault (λ r. link_line (link_of r)) (λ r. IsLinkRecOf (link_of r)) machine bytes messages Link (λ why has. has) fault plain
 link_fault Met machine bytes messages first from unfit fault unmet empty taking (inr refused) =
     let at = refused.1.at in
@@ -129,7 +128,7 @@ link_fault Met machine bytes messages first from unfit fault unmet empty taking 
     subst (IsWalkFault machine bytes messages) (sym (refused.0 ∙ one.taking.is)) own
 
 -- the lane has records of its own
-pub lane_fault : {V : Type 0} (Met : V → Recorded → Type 0) (machine : WideMachine) (bytes : Bytes) (messages : Delivered) (first : LaneTaker) (from : V) (unfit fault : WalkFault) → first.is_met ≡ false → (messages.lane_messages.items ≡ [] → first.is_told ≡ false) → ((messages.lane_messages.items ≡ [] → ⊥) → IsTakingOne Lane messages.lane_messages.items unfit) → IsTakeFault (λ r. lane_line (lane_of r)) (λ r. IsLaneRecOf machine.version (lane_of r)) (MeetsLane Met) (λ taker n rec. taker.is_told ≡ true) Lane (Of Lane) (bytes Lane) first from unfit fault → IsWalkFault machine bytes messages fault
+pub lane_fault : {V : Type 0} (Met : V → Recorded → Type 0) (machine : WideMachine) (bytes : Bytes) (messages : Delivered) (first : CarrierTaker) (from : V) (unfit fault : WalkFault) → first.is_met ≡ false → (messages.lane_messages.items ≡ [] → first.is_told ≡ false) → ((messages.lane_messages.items ≡ [] → ⊥) → IsTakingOne Lane messages.lane_messages.items unfit) → IsTakeFault (λ r. lane_line (lane_of r)) (λ r. IsLaneRecOf machine.version (lane_of r)) (MeetsLane Met) (λ taker n rec. taker.is_told ≡ true) Lane (Of Lane) (bytes Lane) first from unfit fault → IsWalkFault machine bytes messages fault
 lane_fault Met machine bytes messages first from unfit fault unmet empty taking (inl plain) = plain_fault (λ r. lane_line (lane_of r)) (λ r. IsLaneRecOf machine.version (lane_of r)) machine bytes messages Lane (λ why has. has) fault plain
 lane_fault Met machine bytes messages first from unfit fault unmet empty taking (inr refused) =
     let at = refused.1.at in

@@ -46,14 +46,15 @@ impl<'a, V: Visitor> RecordTaker<RawSource, V> for SourceTaker<'a> {
     }
 }
 
-/// The records of the link's own files. There may be none if a record of another log takes a message without them.
+/// The records of the own files of the link or of the lane. There may be none if a record of another log takes a message without
+/// them.
 #[derive(Clone, Copy)]
-pub(crate) struct LinkTaker {
+pub(crate) struct CarrierTaker {
     pub(crate) is_told: bool,
     pub(crate) is_met: bool,
 }
 
-impl<V: Visitor> RecordTaker<WideLink, V> for LinkTaker {
+impl<V: Visitor> RecordTaker<WideLink, V> for CarrierTaker {
     ghost Takes = { λ first from now onto records. MeetsLink V.Met first from now onto records };
 
     ghost IsUnfit = { λ taker number rec. taker.is_told ≡ true };
@@ -70,14 +71,7 @@ impl<V: Visitor> RecordTaker<WideLink, V> for LinkTaker {
     }
 }
 
-/// The records of the lane's own files. There may be none if a record of the pager takes a packet without them.
-#[derive(Clone, Copy)]
-pub(crate) struct LaneTaker {
-    pub(crate) is_told: bool,
-    pub(crate) is_met: bool,
-}
-
-impl<V: Visitor> RecordTaker<WideLane, V> for LaneTaker {
+impl<V: Visitor> RecordTaker<WideLane, V> for CarrierTaker {
     ghost Takes = { λ first from now onto records. MeetsLane V.Met first from now onto records };
 
     ghost IsUnfit = { λ taker number rec. taker.is_told ≡ true };

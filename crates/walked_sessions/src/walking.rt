@@ -14,7 +14,7 @@ ghost use Rattle.walked_sessions.specs.inner.Walking.{WalksGuest, WalksLane, Wal
 use crate::cursors::Cursor;
 use crate::files::{LogFiles, WalkFault, take_log};
 use crate::noting::Messages;
-use crate::takers::{GuestTaker, LaneTaker, LinkTaker, PagerTaker, SourceTaker};
+use crate::takers::{CarrierTaker, GuestTaker, PagerTaker, SourceTaker};
 use migration_types::LogName;
 use recorder_files::{Delivered, Message, RawPager, RawSource};
 use recordings::{Visitor, Wide, WideGuest, WideInit, WideLane, WideLink, WideMachine};
@@ -170,7 +170,7 @@ fn walk_link<F: LogFiles, V: Visitor>(
     ensures walked { IfOk result (λ whole. WalksLink V.Met machine.now (F.bytes_of files.now) messages.now visitor.old visitor.new whole) }
     ensures refused { IfErr result (IsWalkFault machine.now (F.bytes_of files.now) messages.now) }
 {
-    let mut taker = LinkTaker {
+    let mut taker = CarrierTaker {
         is_told: are_some(messages.link_messages.as_slice()),
         is_met: false,
     };
@@ -179,7 +179,7 @@ fn walk_link<F: LogFiles, V: Visitor>(
         messages.link_messages.as_slice(),
         messages.packets,
     );
-    let whole = take_log::<F, WideLink, V, LinkTaker>(
+    let whole = take_log::<F, WideLink, V, CarrierTaker>(
         alloc,
         machine,
         files,
@@ -229,12 +229,12 @@ fn walk_lane<F: LogFiles, V: Visitor>(
     ensures walked { IfOk result (λ whole. WalksLane V.Met machine.now (F.bytes_of files.now) messages.now visitor.old visitor.new whole) }
     ensures refused { IfErr result (IsWalkFault machine.now (F.bytes_of files.now) messages.now) }
 {
-    let mut taker = LaneTaker {
+    let mut taker = CarrierTaker {
         is_told: are_some(messages.lane_messages.as_slice()),
         is_met: false,
     };
     let unfit = own_log(LogName::Lane, messages.lane_messages.as_slice(), 0);
-    let whole = take_log::<F, WideLane, V, LaneTaker>(
+    let whole = take_log::<F, WideLane, V, CarrierTaker>(
         alloc,
         machine,
         files,

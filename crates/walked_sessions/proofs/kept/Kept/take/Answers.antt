@@ -1,9 +1,8 @@
-use Rattle.std.proofs.Common.{Bool, subst, sym}
+use Rattle.std.proofs.Common.{subst, sym}
 use Rattle.std.specs.Prelude.{MatchBool}
 use Rattle.recordings.specs.Seen.{with_record}
 use Rattle.recordings.specs.Wide.{guest_of, source_of, link_of, lane_of, pager_of}
 use Rattle.recordings.specs.declared.wide.Wide.{Wide}
-use Rattle.walked_sessions.specs.declared.kept.Kept.{Kept}
 use Rattle.walked_sessions.specs.Fitting.{Fits}
 use Rattle.walked_sessions.specs.Kept.{IsKept}
 use Rattle.walked_sessions.specs.Needs.{IsNever}

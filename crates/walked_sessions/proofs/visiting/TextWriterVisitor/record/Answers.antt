@@ -15,7 +15,7 @@ returns-then-is_some g c = λ s next met none.
     let t = c.args.self.now.text.now in
     let log = log_of c.args.rec in
     let beyond : HasLog s.version log → c.args.number < cursors_of g.B.Begun.front log → ⊥ = elim c.then-is_some.branch [
-      then-is_some-via-then-is_some w ↦ λ has lt. some_of c.args.self.now.fault w.if-is_some.ensures none
+      | then-is_some-via-then-is_some w ↦ λ has lt. some_of c.args.self.now.fault w.if-is_some.ensures none
       | then-is_some-via-else-is_some+then-number-of w ↦ λ has lt. above w.of.result (cursors_of g.B.Begun.front log) c.args.number (in_front t.front g.B.Begun.front w.log.result log w.of.result w.of.ensures w.log.ensures m.front) w.if-number-of.true lt
       | then-is_some-via-else-is_some+else-number-of+then-not-is_in w ↦ λ has lt. has_no_log s.version t.version w.log-else-number-of.result log w.is_in.result m.holds.stands.counts.version w.log-else-number-of.ensures w.is_in.ensures w.if-not-is_in.true has
     ] in
