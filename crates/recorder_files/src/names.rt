@@ -11,6 +11,7 @@ use recordings::{Wide, WideGuest, WideLane, WideLink, WidePager, WideSource};
 pub const LOST: u64 = 4_294_967_295;
 
 /// Returns what a record names.
+#[inline(always)]
 pub fn named_by(rec: &Wide) -> Option<(LogName, u64)>
     ensures { result ≡ named_first (wide_row rec.now).fields }
 {

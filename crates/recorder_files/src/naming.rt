@@ -58,6 +58,7 @@ impl Naming {
     }
 
     /// Takes the next record of a log.
+    #[inline(always)]
     pub fn note(&mut self, rec: &Wide) -> Result<(), AllocError>
         ensures { (d : Recorded) → IsNaming self.old d → OnOk result (IsNaming self.new (with_record d rec.now)) }
     {

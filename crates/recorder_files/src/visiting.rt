@@ -25,6 +25,7 @@ impl Visitor for Naming {
         Ok(())
     }
 
+    #[inline(always)]
     fn record(&mut self, number: u64, rec: Wide) -> Result<(), AllocError> {
         let _ = number;
         self.note(&rec)

@@ -140,6 +140,7 @@ impl Visitor for HeldRecording {
         self.hold_init(page)
     }
 
+    #[inline(always)]
     fn record(&mut self, _number: u64, rec: Wide) -> Result<(), AllocError> {
         let Some(kept) = &mut self.kept else {
             return Ok(());

@@ -59,6 +59,7 @@ impl Kept {
     }
 
     /// Takes the next record, and returns whether a session may have it behind those before.
+    #[inline(always)]
     pub(crate) fn take(&mut self, rec: Wide) -> Result<bool, AllocError>
         ensures { IfOk result (λ taken. (d : Recorded) → IsKept self.old d → MatchBool taken (IsKept self.new (with_record d rec)) (IsNever (Fits (with_record d rec)))) }
     {

@@ -32,6 +32,7 @@ pub(crate) enum ListKind {
 }
 
 /// Returns the list of a log's records.
+#[inline(always)]
 fn list_of(log: LogName) -> ListKind
     ensures { result ≡ list_of log }
 {
@@ -207,6 +208,7 @@ impl Text {
     }
 
     /// Begins a log, if it has not begun; the lane's only if the version has one.
+    #[inline(always)]
     fn reach(&mut self, log: LogName) -> Result<(), PushFault>
         ensures stands { (before : List ℕ) (d : SessionDraft) → Stands before self.old d → OnOk result (Stands before self.new d) }
         ensures same { OnOk result (IsSame self.old self.new) }
@@ -221,6 +223,7 @@ impl Text {
     }
 
     /// Appends the line of a record.
+    #[inline(always)]
     pub(crate) fn push(&mut self, rec: &Wide) -> Result<(), PushFault>
         ensures stands { (before : List ℕ) (d : SessionDraft) → Stands before self.old d → OnOk result (Stands before self.new (and_record d rec.now)) }
         ensures same { OnOk result (IsSame self.old self.new) }

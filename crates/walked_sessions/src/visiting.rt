@@ -180,6 +180,7 @@ impl<'a, W: Write, B: Begun> Visitor for TextWriter<'a, W, B> {
         self.settle(pushed)
     }
 
+    #[inline(always)]
     fn record(&mut self, number: u64, rec: Wide) -> Result<(), AllocError> {
         if self.fault.is_some()
             || number >= self.text.front.of(rec.log())
