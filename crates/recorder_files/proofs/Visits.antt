@@ -1,18 +1,17 @@
 -- What is known of the logs, where one more record comes.
 use Rattle.std.proofs.Common.{◌≡◌, List, [], ◌∷◌, ◌++◌, map, Option, refl, sym, ap, subst, ◌∙◌}
 use Rattle.migration_types.specs.declared.pages.InitPage.{InitPage}
+use Rattle.migration_types.specs.declared.records.LogName.{LogName}
 use Rattle.migration_types.specs.declared.records.LogName.TheVariants.{Guest, Source, Link, Lane, Pager}
-use Rattle.migration_types.specs.declared.records.GuestRec.{GuestRec}
-use Rattle.migration_types.specs.declared.records.SourceRec.{SourceRec}
-use Rattle.migration_types.specs.declared.records.LinkRec.{LinkRec}
-use Rattle.migration_types.specs.declared.records.LaneRec.{LaneRec}
-use Rattle.migration_types.specs.declared.records.PagerRec.{PagerRec}
 use Rattle.migration_types.specs.declared.version.Version.{Version}
 use Rattle.migration_types.specs.Extents.{Extent}
 use Rattle.migration_types.specs.Receipts.{Name}
 use Rattle.migration_types.specs.Rows.{guest_row, source_row, link_row, lane_row, pager_row}
 use Rattle.migration_types.specs.Sessions.{Recorded}
-use Rattle.recordings.specs.Seen.{nothing_of, with_init, with_guest, with_source, with_link, with_lane, with_pager}
+use Rattle.recordings.specs.Seen.{nothing_of, with_init, with_record}
+use Rattle.recordings.specs.Wide.{guest_of, source_of, link_of, lane_of, pager_of, log_of, wide_row}
+use Rattle.recordings.specs.declared.wide.Wide.{Wide}
+use Rattle.recordings.specs.declared.wide.Wide.TheVariants as wide
 use Rattle.recorder_files.specs.declared.naming.Naming.{Naming}
 use Rattle.recorder_files.specs.declared.reach.Reach.{Reach}
 use Rattle.recorder_files.specs.Named.{IsBlank, IsNaming}
@@ -31,17 +30,27 @@ met_nothing naming version e is = record { guest = is.guest; source = is.source;
 pub met_init : (naming : Naming) (d : Recorded) (p : InitPage) → IsNaming naming d → IsNaming naming (with_init d p)
 met_init naming d p is = record { guest = is.guest; source = is.source; link = is.link; lane = is.lane; pager = is.pager }
 
-pub met_guest : (naming : Naming) (new : Reach) (d : Recorded) (r : GuestRec) (named : Option Name) → IsNaming naming d → named ≡ named_first (guest_row r).fields → IsReach new (names_in d Guest ++ named ∷ []) → IsNaming (record { guest = new; source = naming.source; link = naming.link; lane = naming.lane; pager = naming.pager }) (with_guest d r)
-met_guest naming new d r named is e more = record { guest = one_more new (λ x. named_first (guest_row x).fields) d.guest r named e more; source = is.source; link = is.link; lane = is.lane; pager = is.pager }
+-- what the records of one log name, and what all name with another reach of one log
+abbrev pub reach_of : Naming → LogName → Reach
+reach_of naming Guest = naming.guest
+reach_of naming Source = naming.source
+reach_of naming Link = naming.link
+reach_of naming Lane = naming.lane
+reach_of naming Pager = naming.pager
 
-pub met_source : (naming : Naming) (new : Reach) (d : Recorded) (r : SourceRec) (named : Option Name) → IsNaming naming d → named ≡ named_first (source_row r).fields → IsReach new (names_in d Source ++ named ∷ []) → IsNaming (record { guest = naming.guest; source = new; link = naming.link; lane = naming.lane; pager = naming.pager }) (with_source d r)
-met_source naming new d r named is e more = record { guest = is.guest; source = one_more new (λ x. named_first (source_row x).fields) d.source r named e more; link = is.link; lane = is.lane; pager = is.pager }
+abbrev pub with_reach : Naming → LogName → Reach → Naming
+with_reach naming Guest new = record { guest = new; source = naming.source; link = naming.link; lane = naming.lane; pager = naming.pager }
+with_reach naming Source new = record { guest = naming.guest; source = new; link = naming.link; lane = naming.lane; pager = naming.pager }
+with_reach naming Link new = record { guest = naming.guest; source = naming.source; link = new; lane = naming.lane; pager = naming.pager }
+with_reach naming Lane new = record { guest = naming.guest; source = naming.source; link = naming.link; lane = new; pager = naming.pager }
+with_reach naming Pager new = record { guest = naming.guest; source = naming.source; link = naming.link; lane = naming.lane; pager = new }
 
-pub met_link : (naming : Naming) (new : Reach) (d : Recorded) (r : LinkRec) (named : Option Name) → IsNaming naming d → named ≡ named_first (link_row r).fields → IsReach new (names_in d Link ++ named ∷ []) → IsNaming (record { guest = naming.guest; source = naming.source; link = new; lane = naming.lane; pager = naming.pager }) (with_link d r)
-met_link naming new d r named is e more = record { guest = is.guest; source = is.source; link = one_more new (λ x. named_first (link_row x).fields) d.link r named e more; lane = is.lane; pager = is.pager }
+met_at : (naming : Naming) (new : Reach) (d : Recorded) (rec : Wide) (named : Option Name) → named ≡ named_first (wide_row rec).fields → IsNaming naming d → ((names : List (Option Name)) → IsReach (reach_of naming (log_of rec)) names → IsReach new (names ++ named ∷ [])) → IsNaming (with_reach naming (log_of rec) new) (with_record d rec)
+met_at naming new d (wide.Guest r) named e is more = record { guest = one_more new (λ x. named_first (guest_row x).fields) d.guest (guest_of r) named e (more (names_in d Guest) is.guest); source = is.source; link = is.link; lane = is.lane; pager = is.pager }
+met_at naming new d (wide.Source r) named e is more = record { guest = is.guest; source = one_more new (λ x. named_first (source_row x).fields) d.source (source_of r) named e (more (names_in d Source) is.source); link = is.link; lane = is.lane; pager = is.pager }
+met_at naming new d (wide.Link r) named e is more = record { guest = is.guest; source = is.source; link = one_more new (λ x. named_first (link_row x).fields) d.link (link_of r) named e (more (names_in d Link) is.link); lane = is.lane; pager = is.pager }
+met_at naming new d (wide.Lane r) named e is more = record { guest = is.guest; source = is.source; link = is.link; lane = one_more new (λ x. named_first (lane_row x).fields) d.lane (lane_of r) named e (more (names_in d Lane) is.lane); pager = is.pager }
+met_at naming new d (wide.Pager r) named e is more = record { guest = is.guest; source = is.source; link = is.link; lane = is.lane; pager = one_more new (λ x. named_first (pager_row x).fields) d.pager (pager_of r) named e (more (names_in d Pager) is.pager) }
 
-pub met_lane : (naming : Naming) (new : Reach) (d : Recorded) (r : LaneRec) (named : Option Name) → IsNaming naming d → named ≡ named_first (lane_row r).fields → IsReach new (names_in d Lane ++ named ∷ []) → IsNaming (record { guest = naming.guest; source = naming.source; link = naming.link; lane = new; pager = naming.pager }) (with_lane d r)
-met_lane naming new d r named is e more = record { guest = is.guest; source = is.source; link = is.link; lane = one_more new (λ x. named_first (lane_row x).fields) d.lane r named e more; pager = is.pager }
-
-pub met_pager : (naming : Naming) (new : Reach) (d : Recorded) (r : PagerRec) (named : Option Name) → IsNaming naming d → named ≡ named_first (pager_row r).fields → IsReach new (names_in d Pager ++ named ∷ []) → IsNaming (record { guest = naming.guest; source = naming.source; link = naming.link; lane = naming.lane; pager = new }) (with_pager d r)
-met_pager naming new d r named is e more = record { guest = is.guest; source = is.source; link = is.link; lane = is.lane; pager = one_more new (λ x. named_first (pager_row x).fields) d.pager r named e more }
+pub met_record : (naming : Naming) (new : Reach) (d : Recorded) (rec : Wide) (named : Option Name) (log : LogName) → log ≡ log_of rec → named ≡ named_first (wide_row rec).fields → IsNaming naming d → ((names : List (Option Name)) → IsReach (reach_of naming log) names → IsReach new (names ++ named ∷ [])) → IsNaming (with_reach naming log new) (with_record d rec)
+met_record naming new d rec named log at e is = subst (λ (l : LogName). ((names : List (Option Name)) → IsReach (reach_of naming l) names → IsReach new (names ++ named ∷ [])) → IsNaming (with_reach naming l new) (with_record d rec)) (sym at) (met_at naming new d rec named e is)

@@ -17,6 +17,7 @@ pub struct Front {
 
 impl Front {
     /// Returns how many records of a log are in it.
+    #[inline(always)]
     pub fn of(self, log: LogName) -> u64
         ensures { result ≡ cursors_of self log }
     {

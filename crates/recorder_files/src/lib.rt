@@ -44,9 +44,7 @@ pub use lines::{Last, Opening, Party, read_numbered};
 pub use log_parts::{LogPart, PartEnd, PartFault, find_parts};
 pub use machine_lines::{MachineRec, Outline};
 pub use machine_log::{MachineEntry, MachineLog, MachineLogFault};
-pub use names::{
-    LOST, named_by_guest, named_by_lane, named_by_link, named_by_pager, named_by_source,
-};
+pub use names::{LOST, named_by};
 pub use naming::Naming;
 pub use noting::{Delivered, Noter, Told};
 pub use raw::{RawPager, RawSource};

@@ -1,17 +1,21 @@
 //! What the records of all logs name, and how far the logs reach because of it.
 
 ghost use Rattle.std.specs.Prelude.{◌≡◌, ◌≤◌, List, [], ◌∷◌, ◌++◌, Option, IsTrue, ◌↔◌, min, OnOk};
-ghost use Rattle.migration_types.specs.declared.records.LogName.{LogName};
+ghost use Rattle.migration_types.specs.declared.records.LogName.{LogName as Log};
 ghost use Rattle.migration_types.specs.Receipts.{Name};
 ghost use Rattle.migration_types.specs.Sessions.{Recorded, log_length};
+ghost use Rattle.recordings.specs.Seen.{with_record};
 ghost use Rattle.recorder_files.specs.Fronts.{cursors_of, IsGreatestFront, IsGreatestFrontWithin};
 ghost use Rattle.recorder_files.specs.Named.{IsBlank, IsNaming};
 ghost use Rattle.recorder_files.specs.Reaches.{names_in};
 ghost use Rattle.recorder_files.specs.inner.Reaches.{reach};
 
 use crate::fronts::Front;
+use crate::names::named_by;
 use crate::reach::Reach;
-use std::alloc::Global;
+use migration_types::LogName;
+use recordings::Wide;
+use std::alloc::{AllocError, Global};
 
 /// A visitor that collects what the records of each log name. Takes memory only for records that name a later record of
 /// a log than all before them.
@@ -53,9 +57,25 @@ impl Naming {
         }
     }
 
+    /// Takes the next record of a log.
+    #[inline(always)]
+    pub fn note(&mut self, rec: &Wide) -> Result<(), AllocError>
+        ensures { (d : Recorded) → IsNaming self.old d → OnOk result (IsNaming self.new (with_record d rec.now)) }
+    {
+        let named = named_by(rec);
+        match rec.log() {
+            LogName::Guest => self.guest.note(named)?,
+            LogName::Source => self.source.note(named)?,
+            LogName::Link => self.link.note(named)?,
+            LogName::Lane => self.lane.note(named)?,
+            LogName::Pager => self.pager.note(named)?,
+        }
+        Ok(())
+    }
+
     /// Returns how many records of each log it has met.
     pub fn counts(&self) -> Front
-        ensures { (s : Recorded) → IsNaming self.now s → (log : LogName) → cursors_of result log ≡ log_length s log }
+        ensures { (s : Recorded) → IsNaming self.now s → (log : Log) → cursors_of result log ≡ log_length s log }
     {
         Front {
             guest: self.guest.count,
@@ -68,8 +88,8 @@ impl Naming {
 
     /// Cuts each log before its first record that names a record outside the front.
     fn narrow(&self, there: Front) -> Front
-        ensures within { (log : LogName) → cursors_of result log ≤ cursors_of there log }
-        ensures reach { (s : Recorded) → IsNaming self.now s → (log : LogName) → cursors_of result log ≡ min (cursors_of there log) (reach (cursors_of there) (names_in s log)) }
+        ensures within { (log : Log) → cursors_of result log ≤ cursors_of there log }
+        ensures reach { (s : Recorded) → IsNaming self.now s → (log : Log) → cursors_of result log ≡ min (cursors_of there log) (reach (cursors_of there) (names_in s log)) }
     {
         let guest = self.guest.end(there);
         let source = self.source.end(there);
@@ -88,7 +108,7 @@ impl Naming {
     /// Returns the greatest front of at most this many records of each log: the first records of each, none of which names
     /// a record outside them. Allocates no memory.
     pub fn front_within(&self, most: Front) -> Front
-        ensures { (s : Recorded) → IsNaming self.now s → ((log : LogName) → cursors_of most log ≤ log_length s log) → IsGreatestFrontWithin s (cursors_of most) (cursors_of result) }
+        ensures { (s : Recorded) → IsNaming self.now s → ((log : Log) → cursors_of most log ≤ log_length s log) → IsGreatestFrontWithin s (cursors_of most) (cursors_of result) }
     {
         let mut front = most;
         let mut next = self.narrow(front);

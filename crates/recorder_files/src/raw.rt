@@ -1,16 +1,14 @@
 //! Records as a recorder writes them.
 
-ghost use Rattle.std.specs.Prelude.{◌≡◌, ◌≢◌, ◌≤◌, ℕ, [], ◌∷◌, ◌++◌, length, IfOk, IfErr, IfSome, IfNone, OnOk};
+ghost use Rattle.std.specs.Prelude.{◌≡◌, ◌≢◌, ◌≤◌, ℕ, ◌++◌, length, IfSome, IfNone};
 ghost use Rattle.std.specs.Fmt.{decimal};
-ghost use Rattle.recordings.specs.Recordings.{IsMachine};
 ghost use Rattle.recordings.specs.Wide.{extent_of};
 ghost use Rattle.recorder_files.specs.Raw.{lost_number, raw_source_line, raw_pager_line, IsRawSourceOf, IsRawPagerOf};
-ghost use Rattle.recorder_files.specs.declared.raw.RawSource.{RawSource as Taken};
-ghost use Rattle.recorder_files.specs.declared.raw.RawPager.{RawPager as Received};
 
+use crate::records::LogRecord;
 use recordings::{WideMachine, WidePager, WideSource};
-use std::alloc::{AllocError, Global};
-use text_lines::{FaultKind, push_keyed, read_keyed};
+use std::alloc::Global;
+use text_lines::{FaultKind, read_keyed};
 
 const ASK_SENT_KEY: &[u8] = b"ask-sent ";
 
@@ -56,70 +54,43 @@ fn sent(line: &[u8], key: &[u8]) -> Option<u64>
     }
 }
 
-impl RawSource {
-    /// Returns the record of the source that a line spells.
-    ///
-    /// # Errors
-    ///
-    /// The line spells none, or memory ran out for the contents.
+impl LogRecord for RawSource {
+    ghost line = { raw_source_line };
+
+    ghost IsOf = { λ machine r. IsRawSourceOf (extent_of machine) r };
+
     #[inline(always)]
-    pub fn read(alloc: Global, machine: &WideMachine, line: &[u8]) -> Result<RawSource, FaultKind>
-        requires { IsMachine (extent_of machine.now) }
-        ensures found { IfOk result (λ r. IsRawSourceOf (extent_of machine.now) r × (line.now ≡ raw_source_line r)) }
-        ensures refused { IfErr result (λ kind. kind ≢ FaultKind.Memory → (r : Taken) → IsRawSourceOf (extent_of machine.now) r → line.now ≢ raw_source_line r) }
-    {
-        if let Some(asking) = sent(line, ASK_SENT_KEY) {
+    fn read_line(
+        alloc: Global,
+        machine: &WideMachine,
+        text: &[u8],
+    ) -> Result<RawSource, FaultKind> {
+        if let Some(asking) = sent(text, ASK_SENT_KEY) {
             return Ok(RawSource::AskSent { asking });
         }
-        match WideSource::read(alloc, machine, line) {
+        match WideSource::read(alloc, machine, text) {
             Ok(rec) => Ok(RawSource::Own(rec)),
             Err(kind) => Err(kind),
         }
     }
-
-    /// Appends its line, with the line feed. Fails only if memory runs out.
-    pub fn push(&self, out: &mut Vec<u8>) -> Result<(), AllocError>
-        ensures { OnOk result (out.new.items ≡ out.old.items ++ (raw_source_line self.now ++ 10 ∷ [])) }
-    {
-        match self {
-            RawSource::Own(rec) => rec.push(out),
-            RawSource::AskSent { asking } => push_keyed(out, ASK_SENT_KEY, *asking),
-        }
-    }
 }
 
-impl RawPager {
-    /// Returns the record of the pager that a line spells.
-    ///
-    /// # Errors
-    ///
-    /// The line spells none, or memory ran out for the contents.
+impl LogRecord for RawPager {
+    ghost line = { raw_pager_line };
+
+    ghost IsOf = { λ machine r. IsRawPagerOf machine.version (extent_of machine) r };
+
     #[inline(always)]
-    pub fn read(alloc: Global, machine: &WideMachine, line: &[u8]) -> Result<RawPager, FaultKind>
-        requires { IsMachine (extent_of machine.now) }
-        ensures found { IfOk result (λ r. IsRawPagerOf machine.now.version (extent_of machine.now) r × (line.now ≡ raw_pager_line r)) }
-        ensures refused { IfErr result (λ kind. kind ≢ FaultKind.Memory → (r : Received) → IsRawPagerOf machine.now.version (extent_of machine.now) r → line.now ≢ raw_pager_line r) }
-    {
-        if let Some(sending) = sent(line, GOT_SENT_KEY) {
+    fn read_line(alloc: Global, machine: &WideMachine, text: &[u8]) -> Result<RawPager, FaultKind> {
+        if let Some(sending) = sent(text, GOT_SENT_KEY) {
             return Ok(RawPager::GotSent { sending });
         }
-        if let Some(sending) = sent(line, PULL_SENT_KEY) {
+        if let Some(sending) = sent(text, PULL_SENT_KEY) {
             return Ok(RawPager::PullSent { sending });
         }
-        match WidePager::read(alloc, machine, line) {
+        match WidePager::read(alloc, machine, text) {
             Ok(rec) => Ok(RawPager::Own(rec)),
             Err(kind) => Err(kind),
-        }
-    }
-
-    /// Appends its line, with the line feed. Fails only if memory runs out.
-    pub fn push(&self, out: &mut Vec<u8>) -> Result<(), AllocError>
-        ensures { OnOk result (out.new.items ≡ out.old.items ++ (raw_pager_line self.now ++ 10 ∷ [])) }
-    {
-        match self {
-            RawPager::Own(rec) => rec.push(out),
-            RawPager::GotSent { sending } => push_keyed(out, GOT_SENT_KEY, *sending),
-            RawPager::PullSent { sending } => push_keyed(out, PULL_SENT_KEY, *sending),
         }
     }
 }

@@ -4,10 +4,8 @@ ghost use Rattle.std.specs.Prelude.{◌≡◌, ◌≢◌, ℕ, List, IfOk, IfErr
 ghost use Rattle.recordings.specs.Recordings.{IsMachine, IsGuestRecOf, IsLaneRecOf, IsLinkRecOf};
 ghost use Rattle.recordings.specs.Wide.{extent_of, guest_of, lane_of, link_of};
 ghost use Rattle.recordings.specs.declared.machine.WideMachine.{WideMachine as Described};
-ghost use Rattle.recorder_files.specs.Raw.{raw_source_line, raw_pager_line, IsRawSourceOf, IsRawPagerOf};
 ghost use Rattle.session_grammar.specs.Records.{guest_line, lane_line, link_line};
 
-use crate::raw::{RawPager, RawSource};
 use recordings::{WideGuest, WideLane, WideLink, WideMachine};
 use std::alloc::Global;
 use text_lines::FaultKind;
@@ -47,21 +45,6 @@ impl LogRecord for WideGuest {
     }
 }
 
-impl LogRecord for RawSource {
-    ghost line = { raw_source_line };
-
-    ghost IsOf = { λ machine r. IsRawSourceOf (extent_of machine) r };
-
-    #[inline(always)]
-    fn read_line(
-        alloc: Global,
-        machine: &WideMachine,
-        text: &[u8],
-    ) -> Result<RawSource, FaultKind> {
-        RawSource::read(alloc, machine, text)
-    }
-}
-
 impl LogRecord for WideLink {
     ghost line = { λ r. link_line (link_of r) };
 
@@ -84,16 +67,5 @@ impl LogRecord for WideLane {
     fn read_line(alloc: Global, machine: &WideMachine, text: &[u8]) -> Result<WideLane, FaultKind> {
         let _ = alloc;
         WideLane::read(machine, text)
-    }
-}
-
-impl LogRecord for RawPager {
-    ghost line = { raw_pager_line };
-
-    ghost IsOf = { λ machine r. IsRawPagerOf machine.version (extent_of machine) r };
-
-    #[inline(always)]
-    fn read_line(alloc: Global, machine: &WideMachine, text: &[u8]) -> Result<RawPager, FaultKind> {
-        RawPager::read(alloc, machine, text)
     }
 }

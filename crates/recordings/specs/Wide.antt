@@ -1,5 +1,8 @@
 -- The machine and the records that values of 64 bits stand for.
+use Rattle.std.specs.Prelude.{ℕ, List}
 use Rattle.migration_types.specs.declared.pages.InitPage.{InitPage}
+use Rattle.migration_types.specs.declared.records.LogName.{LogName}
+use Rattle.migration_types.specs.declared.records.LogName.TheVariants as log
 use Rattle.migration_types.specs.declared.records.GuestRec.{GuestRec}
 use Rattle.migration_types.specs.declared.records.GuestRec.TheVariants as guest
 use Rattle.migration_types.specs.declared.records.SourceRec.{SourceRec}
@@ -11,6 +14,8 @@ use Rattle.migration_types.specs.declared.records.LaneRec.TheVariants as lane
 use Rattle.migration_types.specs.declared.records.PagerRec.{PagerRec}
 use Rattle.migration_types.specs.declared.records.PagerRec.TheVariants as pager
 use Rattle.migration_types.specs.Extents.{Extent}
+use Rattle.migration_types.specs.Rows.{Consists, guest_row, source_row, link_row, lane_row, pager_row}
+use Rattle.session_grammar.specs.Records.{guest_line, source_line, link_line, lane_line, pager_line}
 use Rattle.recordings.specs.declared.machine.WideMachine.{WideMachine}
 use Rattle.recordings.specs.declared.wide.WideInit.{WideInit}
 use Rattle.recordings.specs.declared.wide.WideGuest.{WideGuest}
@@ -23,6 +28,8 @@ use Rattle.recordings.specs.declared.wide.WideLane.{WideLane}
 use Rattle.recordings.specs.declared.wide.WideLane.TheVariants.{Down as LaneDown}
 use Rattle.recordings.specs.declared.wide.WidePager.{WidePager}
 use Rattle.recordings.specs.declared.wide.WidePager.TheVariants.{Got, Pull, Ready, Fault, Join, Want, Place, Zero, Skip, All}
+use Rattle.recordings.specs.declared.wide.Wide.{Wide}
+use Rattle.recordings.specs.declared.wide.Wide.TheVariants.{Guest, Source, Link, Lane, Pager}
 
 -- the extent of a recording's machine: its text gives its size, but the limits of that size do not apply
 abbrev pub extent_of : WideMachine → Extent
@@ -67,3 +74,27 @@ pager_of (Place page got contents) = pager.Place page got contents
 pager_of (Zero page) = pager.Zero page
 pager_of (Skip got) = pager.Skip got
 pager_of All = pager.All
+
+-- the log of a record
+abbrev pub log_of : Wide → LogName
+log_of (Guest rec) = log.Guest
+log_of (Source rec) = log.Source
+log_of (Link rec) = log.Link
+log_of (Lane rec) = log.Lane
+log_of (Pager rec) = log.Pager
+
+-- what it consists of
+abbrev pub wide_row : Wide → Consists
+wide_row (Guest rec) = guest_row (guest_of rec)
+wide_row (Source rec) = source_row (source_of rec)
+wide_row (Link rec) = link_row (link_of rec)
+wide_row (Lane rec) = lane_row (lane_of rec)
+wide_row (Pager rec) = pager_row (pager_of rec)
+
+-- its line
+abbrev pub wide_line : Wide → List ℕ
+wide_line (Guest rec) = guest_line (guest_of rec)
+wide_line (Source rec) = source_line (source_of rec)
+wide_line (Link rec) = link_line (link_of rec)
+wide_line (Lane rec) = lane_line (lane_of rec)
+wide_line (Pager rec) = pager_line (pager_of rec)

@@ -8,7 +8,7 @@ use crate::laws::sessions_are_recordings;
 use crate::machine::WideMachine;
 use crate::visited::Visited;
 use crate::visiting::Visitor;
-use crate::wide::{WideGuest, WideInit, WideLane, WideLink, WidePager, WideSource};
+use crate::wide::{Wide, WideGuest, WideInit, WideLane, WideLink, WidePager, WideSource};
 use migration_types::{GuestRec, InitPage, LaneRec, LinkRec, PagerRec, Session, SourceRec};
 use std::alloc::{AllocError, Global};
 
@@ -31,7 +31,7 @@ fn visit_guest<V: Visitor>(log: &[GuestRec], visitor: &mut V) -> Result<(), Allo
     ensures { OnOk result ((d : Recorded) → BeforeSource d → d.guest ≡ [] → V.Met visitor.old d → V.Met visitor.new (record d { guest = log.now })) }
 {
     for i in 0..log.len() {
-        visitor.guest(i as u64, WideGuest::of(&log[i]))?;
+        visitor.record(i as u64, Wide::Guest(WideGuest::of(&log[i])))?;
     }
     Ok(())
 }
@@ -45,7 +45,7 @@ fn visit_source<V: Visitor>(
     ensures { OnOk result ((d : Recorded) → BeforeLink d → d.source ≡ [] → V.Met visitor.old d → V.Met visitor.new (record d { source = log.now })) }
 {
     for i in 0..log.len() {
-        visitor.source(i as u64, WideSource::of(alloc, &log[i])?)?;
+        visitor.record(i as u64, Wide::Source(WideSource::of(alloc, &log[i])?))?;
     }
     Ok(())
 }
@@ -55,7 +55,7 @@ fn visit_link<V: Visitor>(log: &[LinkRec], visitor: &mut V) -> Result<(), AllocE
     ensures { OnOk result ((d : Recorded) → BeforeLane d → d.link ≡ [] → V.Met visitor.old d → V.Met visitor.new (record d { link = log.now })) }
 {
     for i in 0..log.len() {
-        visitor.link(i as u64, WideLink::of(&log[i]))?;
+        visitor.record(i as u64, Wide::Link(WideLink::of(&log[i])))?;
     }
     Ok(())
 }
@@ -65,7 +65,7 @@ fn visit_lane<V: Visitor>(log: &[LaneRec], visitor: &mut V) -> Result<(), AllocE
     ensures { OnOk result ((d : Recorded) → BeforePager d → d.lane ≡ [] → V.Met visitor.old d → V.Met visitor.new (record d { lane = log.now })) }
 {
     for i in 0..log.len() {
-        visitor.lane(i as u64, WideLane::of(&log[i]))?;
+        visitor.record(i as u64, Wide::Lane(WideLane::of(&log[i])))?;
     }
     Ok(())
 }
@@ -79,7 +79,7 @@ fn visit_pager<V: Visitor>(
     ensures { OnOk result ((d : Recorded) → d.pager ≡ [] → V.Met visitor.old d → V.Met visitor.new (record d { pager = log.now })) }
 {
     for i in 0..log.len() {
-        visitor.pager(i as u64, WidePager::of(alloc, &log[i])?)?;
+        visitor.record(i as u64, Wide::Pager(WidePager::of(alloc, &log[i])?))?;
     }
     Ok(())
 }

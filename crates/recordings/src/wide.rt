@@ -98,3 +98,13 @@ pub enum WidePager {
     },
     All,
 }
+
+/// A record of any log.
+#[derive(Drop)]
+pub enum Wide {
+    Guest(WideGuest),
+    Source(WideSource),
+    Link(WideLink),
+    Lane(WideLane),
+    Pager(WidePager),
+}

@@ -22,6 +22,8 @@ use Rattle.text_access.specs.Written.{Gains, Streams}
 use Rattle.session_commands.specs.Files.{IsChosen, LosesNothing, bytes_in}
 use Rattle.session_commands.specs.Found.{AreCompressed, IsFoundIn}
 use Rattle.session_commands.specs.declared.found.FoundLogs.{FoundLogs}
+use Rattle.session_commands.specs.declared.windowing.Windowed.{Windowed}
+use Rattle.session_commands.specs.declared.windowing.Windowed.TheVariants.{SessionText, NoSuchPages, Seen}
 
 -- ---- the recording
 
@@ -59,13 +61,6 @@ IsRefusedUnder name files text None = (s : Recorded) × IsUnder name files text 
 IsRefusedUnder name files text (Some line) = IsRefusalLine SpellsSession text line
 
 -- ---- the answer
-
--- the text is refused at this line; or its machine does not have these pages; or this is their session, and each of its
--- lines is this line of the text
-pub data Windowed : Type 0 where
-  SessionText : ℕ → Windowed
-  NoSuchPages : Windowed
-  Seen : WindowText → Windowed
 
 -- the result for the text under a name
 abbrev pub IsWindowed : Window → List ℕ → Files → List ℕ → Windowed → Type 0

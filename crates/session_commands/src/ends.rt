@@ -11,13 +11,8 @@ use crate::places::{FoundRecord, find_record, push_placed};
 use crate::stops::{Stop, add};
 use crate::words::{Piece, line_on, push, push_message, push_sentence, word_at};
 use migration_types::LogName;
-use recorder_files::{
-    Front, LOST, Party, named_by_guest, named_by_lane, named_by_link, named_by_pager,
-    named_by_source,
-};
-use recordings::{
-    Visitor, WideGuest, WideInit, WideLane, WideLink, WideMachine, WidePager, WideSource,
-};
+use recorder_files::{Front, LOST, Party, named_by};
+use recordings::{Visitor, Wide, WideInit, WideMachine};
 use std::alloc::{AllocError, Global};
 use text_access::TextSource;
 use text_lines::read_decimal;
@@ -50,16 +45,6 @@ impl Ends {
         }
     }
 
-    /// Keeps the record in front of which a log is cut.
-    fn keep(
-        &mut self,
-        log: LogName,
-        line: Vec<u8>,
-        named: Option<(LogName, u64)>,
-    ) -> Result<(), AllocError> {
-        add(&mut self.ends, End { log, line, named })
-    }
-
     /// Returns the record in front of which a log is cut.
     fn end(&self, log: LogName) -> Option<&End> {
         self.ends.iter().find(|end| end.log == log)
@@ -83,49 +68,15 @@ impl Visitor for Ends {
         Ok(())
     }
 
-    fn guest(&mut self, number: u64, rec: WideGuest) -> Result<(), AllocError> {
-        if number != self.front.guest {
+    fn record(&mut self, number: u64, rec: Wide) -> Result<(), AllocError> {
+        let log = rec.log();
+        if number != self.front.of(log) {
             return Ok(());
         }
         let mut line = Vec::new(self.alloc);
         rec.push(&mut line)?;
-        self.keep(LogName::Guest, line, named_by_guest(&rec))
-    }
-
-    fn source(&mut self, number: u64, rec: WideSource) -> Result<(), AllocError> {
-        if number != self.front.source {
-            return Ok(());
-        }
-        let mut line = Vec::new(self.alloc);
-        rec.push(&mut line)?;
-        self.keep(LogName::Source, line, named_by_source(&rec))
-    }
-
-    fn link(&mut self, number: u64, rec: WideLink) -> Result<(), AllocError> {
-        if number != self.front.link {
-            return Ok(());
-        }
-        let mut line = Vec::new(self.alloc);
-        rec.push(&mut line)?;
-        self.keep(LogName::Link, line, named_by_link(&rec))
-    }
-
-    fn lane(&mut self, number: u64, rec: WideLane) -> Result<(), AllocError> {
-        if number != self.front.lane {
-            return Ok(());
-        }
-        let mut line = Vec::new(self.alloc);
-        rec.push(&mut line)?;
-        self.keep(LogName::Lane, line, named_by_lane(&rec))
-    }
-
-    fn pager(&mut self, number: u64, rec: WidePager) -> Result<(), AllocError> {
-        if number != self.front.pager {
-            return Ok(());
-        }
-        let mut line = Vec::new(self.alloc);
-        rec.push(&mut line)?;
-        self.keep(LogName::Pager, line, named_by_pager(&rec))
+        let named = named_by(&rec);
+        add(&mut self.ends, End { log, line, named })
     }
 }
 

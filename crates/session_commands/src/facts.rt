@@ -9,21 +9,16 @@ ghost use Rattle.migration_types.specs.declared.records.LogName.{LogName as Log}
 ghost use Rattle.recorder_files.specs.Fronts.{cursors_of};
 ghost use Rattle.migration_types.specs.Sessions.{Recorded};
 ghost use Rattle.recordings.specs.Recordings.{IsMachine};
-ghost use Rattle.recordings.specs.Seen.{nothing_of, with_guest, with_source, with_link, with_lane, with_pager, BeforeSource, BeforeLink, BeforeLane, BeforePager};
-ghost use Rattle.recordings.specs.Wide.{extent_of, guest_of, lane_of, link_of, pager_of, source_of};
-ghost use Rattle.migration_types.specs.Rows.{pager_row, source_row};
-ghost use Rattle.recorder_files.specs.Reaches.{named_first};
+ghost use Rattle.recordings.specs.Seen.{nothing_of, with_record, IsNext};
+ghost use Rattle.recordings.specs.Wide.{extent_of, guest_of, pager_of, source_of};
 ghost use Rattle.session_commands.specs.Written.{begins_halted, has_lone_halted, is_back, is_halted, is_pull, IsLateRelease, IsSmall, IsWrittenFront, NeedsLarge};
 ghost use Rattle.audit_model.specs.Shape.{is_release, is_resume, is_halt};
 ghost use Rattle.session_commands.specs.Unresumed.{ends_halted, GoesUnresumed, IsHaltOf};
 ghost use Rattle.session_commands.specs.Facts.{HasNone, IsBefore, IsFacts, IsFirstLate};
 
 use migration_types::{LogName, Size};
-use recorder_files::{
-    Front, LOST, Naming, named_by_guest, named_by_lane, named_by_link, named_by_pager,
-    named_by_source,
-};
-use recordings::{Visitor, WideGuest, WideLane, WideLink, WideMachine, WidePager, WideSource};
+use recorder_files::{Front, LOST, Naming, named_by};
+use recordings::{Visitor, Wide, WideGuest, WideMachine, WidePager, WideSource};
 use std::alloc::{AllocError, Global};
 
 /// What is to be known of a recording before it is written or held.
@@ -53,10 +48,7 @@ fn is_halt(rec: &WideGuest) -> bool
     ensures test { result ≡ is_halt (guest_of rec.now) }
     ensures halt { IsTrue result ↔ (guest_of rec.now ≡ GuestRec.Halt) }
 {
-    match rec {
-        WideGuest::Halt => true,
-        _ => false,
-    }
+    matches!(rec, WideGuest::Halt)
 }
 
 /// Returns the guest's first halt, with one more record, whose number this is.
@@ -105,50 +97,35 @@ fn is_before(place: Option<u64>, count: u64) -> bool
 fn is_halted(rec: &WideSource) -> bool
     ensures { result ≡ is_halted (source_of rec.now) }
 {
-    match rec {
-        WideSource::Halted { .. } => true,
-        _ => false,
-    }
+    matches!(rec, WideSource::Halted { .. })
 }
 
 /// Returns whether a record of the source tells that it started the guest again.
 fn is_back(rec: &WideSource) -> bool
     ensures { result ≡ is_back (source_of rec.now) }
 {
-    match rec {
-        WideSource::Back => true,
-        _ => false,
-    }
+    matches!(rec, WideSource::Back)
 }
 
 /// Returns whether a record of the pager takes a packet of the lane.
 fn is_pull(rec: &WidePager) -> bool
     ensures { result ≡ is_pull (pager_of rec.now) }
 {
-    match rec {
-        WidePager::Pull { .. } => true,
-        _ => false,
-    }
+    matches!(rec, WidePager::Pull { .. })
 }
 
 /// Returns whether a record of the guest is a resume.
 fn is_resume(rec: &WideGuest) -> bool
     ensures { result ≡ is_resume (guest_of rec.now) }
 {
-    match rec {
-        WideGuest::Resume { .. } => true,
-        _ => false,
-    }
+    matches!(rec, WideGuest::Resume { .. })
 }
 
 /// Returns whether a record of the guest is a release.
 fn is_release(rec: &WideGuest) -> bool
     ensures { result ≡ is_release (guest_of rec.now) }
 {
-    match rec {
-        WideGuest::Release { .. } => true,
-        _ => false,
-    }
+    matches!(rec, WideGuest::Release { .. })
 }
 
 /// Returns whether the source's first record tells that the guest was halted, with one more record, whose number this is.
@@ -202,33 +179,6 @@ fn with_late(late: Option<u64>, has_resume: bool, number: u64, rec: &WideGuest) 
     match late {
         Some(first) => Some(first),
         None => first_late(has_resume, number, rec),
-    }
-}
-
-/// Returns a record without contents that names the same.
-fn naming_source(rec: &WideSource) -> WideSource
-    ensures { named_first (source_row (source_of result)).fields ≡ named_first (source_row (source_of rec.now)).fields }
-{
-    match rec {
-        WideSource::Halted { halt } => WideSource::Halted { halt: *halt },
-        WideSource::Again { sending } => WideSource::Again { sending: *sending },
-        WideSource::Ask { up } => WideSource::Ask { up: *up },
-        _ => WideSource::Done,
-    }
-}
-
-/// Returns a record without contents that names the same.
-fn naming_pager(rec: &WidePager) -> WidePager
-    ensures { named_first (pager_row (pager_of result)).fields ≡ named_first (pager_row (pager_of rec.now)).fields }
-{
-    match rec {
-        WidePager::Got { down } => WidePager::Got { down: *down },
-        WidePager::Pull { down } => WidePager::Pull { down: *down },
-        WidePager::Fault { miss } => WidePager::Fault { miss: *miss },
-        WidePager::Join { want } => WidePager::Join { want: *want },
-        WidePager::Place { got, .. } => WidePager::Skip { got: *got },
-        WidePager::Skip { got } => WidePager::Skip { got: *got },
-        _ => WidePager::All,
     }
 }
 
@@ -339,60 +289,27 @@ impl Facts {
         Ok(())
     }
 
-    /// Sees a record of the guest.
-    pub(crate) fn see_guest(&mut self, number: u64, rec: WideGuest) -> Result<(), AllocError>
-        ensures { (s : Recorded) → BeforeSource s → length s.guest ≡ number → IsFacts self.old s → OnOk result (IsFacts self.new (with_guest s (guest_of rec))) }
+    /// Sees the next record.
+    #[inline(always)]
+    pub(crate) fn see(&mut self, number: u64, rec: &Wide) -> Result<(), AllocError>
+        ensures { (s : Recorded) → IsNext s number rec.now → IsFacts self.old s → OnOk result (IsFacts self.new (with_record s rec.now)) }
     {
-        self.halts_at_last = halts_last(&rec);
-        self.halt = with_halt(self.halt, number, &rec);
-        self.late = with_late(self.late, self.has_resume, number, &rec);
-        self.has_resume = with_resume(self.has_resume, &rec);
-        let named = named_by_guest(&rec);
-        keep_beyond(&mut self.beyond, LogName::Guest, number, named);
-        self.naming.guest(number, rec)?;
-        Ok(())
-    }
-
-    /// Sees a record of the source.
-    pub(crate) fn see_source(&mut self, number: u64, rec: &WideSource) -> Result<(), AllocError>
-        ensures { (s : Recorded) → BeforeLink s → length s.source ≡ number → IsFacts self.old s → OnOk result (IsFacts self.new (with_source s (source_of rec.now))) }
-    {
-        self.begins_halted = with_halted(self.begins_halted, number, rec);
-        self.has_back = with_back(self.has_back, rec);
-        let named = named_by_source(rec);
-        keep_beyond(&mut self.beyond, LogName::Source, number, named);
-        self.naming.source(number, naming_source(rec))?;
-        Ok(())
-    }
-
-    /// Sees a record of the link.
-    pub(crate) fn see_link(&mut self, number: u64, rec: WideLink) -> Result<(), AllocError>
-        ensures { (s : Recorded) → BeforeLane s → length s.link ≡ number → IsFacts self.old s → OnOk result (IsFacts self.new (with_link s (link_of rec))) }
-    {
-        let named = named_by_link(&rec);
-        keep_beyond(&mut self.beyond, LogName::Link, number, named);
-        self.naming.link(number, rec)?;
-        Ok(())
-    }
-
-    /// Sees a record of the lane.
-    pub(crate) fn see_lane(&mut self, number: u64, rec: WideLane) -> Result<(), AllocError>
-        ensures { (s : Recorded) → BeforePager s → length s.lane ≡ number → IsFacts self.old s → OnOk result (IsFacts self.new (with_lane s (lane_of rec))) }
-    {
-        let named = named_by_lane(&rec);
-        keep_beyond(&mut self.beyond, LogName::Lane, number, named);
-        self.naming.lane(number, rec)?;
-        Ok(())
-    }
-
-    /// Sees a record of the pager.
-    pub(crate) fn see_pager(&mut self, number: u64, rec: &WidePager) -> Result<(), AllocError>
-        ensures { (s : Recorded) → length s.pager ≡ number → IsFacts self.old s → OnOk result (IsFacts self.new (with_pager s (pager_of rec.now))) }
-    {
-        self.has_pull = with_pull(self.has_pull, rec);
-        let named = named_by_pager(rec);
-        keep_beyond(&mut self.beyond, LogName::Pager, number, named);
-        self.naming.pager(number, naming_pager(rec))?;
+        keep_beyond(&mut self.beyond, rec.log(), number, named_by(rec));
+        self.naming.note(rec)?;
+        match rec {
+            Wide::Guest(rec) => {
+                self.halts_at_last = halts_last(rec);
+                self.halt = with_halt(self.halt, number, rec);
+                self.late = with_late(self.late, self.has_resume, number, rec);
+                self.has_resume = with_resume(self.has_resume, rec);
+            }
+            Wide::Source(rec) => {
+                self.begins_halted = with_halted(self.begins_halted, number, rec);
+                self.has_back = with_back(self.has_back, rec);
+            }
+            Wide::Pager(rec) => self.has_pull = with_pull(self.has_pull, rec),
+            Wide::Link(_) | Wide::Lane(_) => {}
+        }
         Ok(())
     }
 }

@@ -5,9 +5,7 @@ ghost use Rattle.session_commands.specs.Facts.{HasNone};
 
 use crate::facts::Facts;
 use recorder_files::Front;
-use recordings::{
-    Visitor, WideGuest, WideInit, WideLane, WideLink, WideMachine, WidePager, WideSource,
-};
+use recordings::{Visitor, Wide, WideInit, WideMachine};
 use std::alloc::{AllocError, Global};
 
 /// A visitor that finds what is to be known of a recording before it is written or held, while another visitor meets it too.
@@ -49,33 +47,10 @@ impl<V: Visitor> Visitor for FactFinder<V> {
         Ok(())
     }
 
-    fn guest(&mut self, number: u64, rec: WideGuest) -> Result<(), AllocError> {
-        self.facts.see_guest(number, rec)?;
-        self.other.guest(number, rec)?;
-        Ok(())
-    }
-
-    fn source(&mut self, number: u64, rec: WideSource) -> Result<(), AllocError> {
-        self.facts.see_source(number, &rec)?;
-        self.other.source(number, rec)?;
-        Ok(())
-    }
-
-    fn link(&mut self, number: u64, rec: WideLink) -> Result<(), AllocError> {
-        self.facts.see_link(number, rec)?;
-        self.other.link(number, rec)?;
-        Ok(())
-    }
-
-    fn lane(&mut self, number: u64, rec: WideLane) -> Result<(), AllocError> {
-        self.facts.see_lane(number, rec)?;
-        self.other.lane(number, rec)?;
-        Ok(())
-    }
-
-    fn pager(&mut self, number: u64, rec: WidePager) -> Result<(), AllocError> {
-        self.facts.see_pager(number, &rec)?;
-        self.other.pager(number, rec)?;
+    #[inline(always)]
+    fn record(&mut self, number: u64, rec: Wide) -> Result<(), AllocError> {
+        self.facts.see(number, &rec)?;
+        self.other.record(number, rec)?;
         Ok(())
     }
 }
@@ -99,28 +74,8 @@ impl Visitor for Nobody {
         Ok(())
     }
 
-    fn guest(&mut self, number: u64, rec: WideGuest) -> Result<(), AllocError> {
-        let _ = (number, rec);
-        Ok(())
-    }
-
-    fn source(&mut self, number: u64, rec: WideSource) -> Result<(), AllocError> {
-        let _ = number;
-        drop(rec);
-        Ok(())
-    }
-
-    fn link(&mut self, number: u64, rec: WideLink) -> Result<(), AllocError> {
-        let _ = (number, rec);
-        Ok(())
-    }
-
-    fn lane(&mut self, number: u64, rec: WideLane) -> Result<(), AllocError> {
-        let _ = (number, rec);
-        Ok(())
-    }
-
-    fn pager(&mut self, number: u64, rec: WidePager) -> Result<(), AllocError> {
+    #[inline(always)]
+    fn record(&mut self, number: u64, rec: Wide) -> Result<(), AllocError> {
         let _ = number;
         drop(rec);
         Ok(())

@@ -2,15 +2,13 @@
 
 ghost use Rattle.std.specs.Prelude.{◌≡◌, ℕ, List, [], ◌∷◌, Option, IfOk, IfSome, map, string_bytes};
 ghost use Rattle.command_words.specs.declared.requests.Lacking.TheVariants.{Refused};
-ghost use Rattle.session_grammar.specs.Grammar.{SpellsSession};
-ghost use Rattle.text_lines.specs.Text.{IsSpelling};
 ghost use Rattle.text_access.specs.Names.{names_of};
 ghost use Rattle.text_access.specs.Written.{Gains};
 ghost use Rattle.session_commands.specs.Found.{AreCompressed, AreFound};
 ghost use Rattle.session_commands.specs.declared.found.FoundLogs.{FoundLogs as Found};
 ghost use Rattle.walked_sessions.specs.Held.{HasMet, IsHeld};
 ghost use Rattle.session_commands.specs.Files.{IsTextOf};
-ghost use Rattle.session_commands.specs.Texts.{IsSessionText};
+ghost use Rattle.session_commands.specs.Texts.{HasText, IsSessionText};
 ghost use Rattle.session_commands.specs.inner.Seen.{IsKnownAndMet};
 
 use crate::finder::FactFinder;
@@ -53,7 +51,7 @@ impl From<AllocError> for Unmade {
 fn session_of(held: HeldRecording, known: Known) -> Result<Option<Session>, AllocError>
     requires met { HasMet held }
     requires whole { known.said.items ≡ [] }
-    ensures { (files : List ℕ → Option (List ℕ)) (logs : Found) → IsKnownAndMet (IsHeld held) files logs known → IfOk result (λ found. IfSome found (λ session. (text : List ℕ) × IsTextOf files logs Refused text × IsSpelling SpellsSession session text)) }
+    ensures { (files : List ℕ → Option (List ℕ)) (logs : Found) → IsKnownAndMet (IsHeld held) files logs known → IfOk result (λ found. IfSome found (HasText (IsTextOf files logs Refused))) }
 {
     let Known {
         machine,
@@ -79,7 +77,7 @@ fn gather_files<S: TextSource, E: Write>(
     senders: Senders,
     errors: &mut E,
 ) -> Result<Option<Session>, Unmade>
-    ensures { IfOk result (λ found. IfSome found (λ session. (text : List ℕ) × IsTextOf (S.bytes_of texts.now) logs.now Refused text × IsSpelling SpellsSession session text)) }
+    ensures { IfOk result (λ found. IfSome found (HasText (IsTextOf (S.bytes_of texts.now) logs.now Refused))) }
 {
     let expected = expected_of(logs, &senders)?;
     let held = HeldRecording::new(alloc, room_for(expected));
@@ -135,7 +133,7 @@ fn gather<S: TextSource, E: Write>(
 ) -> Result<Option<Session>, Unmade>
     requires found { AreFound (S.names_in texts.now) (names_of folders.now) found.now.files.items }
     requires compressed { AreCompressed (S.names_in texts.now) (names_of folders.now) (map string_bytes found.now.compressed.items) }
-    ensures { IfOk result (λ found. IfSome found (λ session. (text : List ℕ) × IsSessionText (S.names_in texts.now) (S.bytes_of texts.now) (names_of folders.now) Refused text × IsSpelling SpellsSession session text)) }
+    ensures { IfOk result (λ found. IfSome found (HasText (IsSessionText (S.names_in texts.now) (S.bytes_of texts.now) (names_of folders.now) Refused))) }
 {
     let goes_on = leave_out(alloc, Lacking::Refused, found.compressed.as_slice(), errors)?;
     if !goes_on {
@@ -174,7 +172,7 @@ pub fn gather_session<S: TextSource, E: Write>(
     folder: &str,
     errors: &mut E,
 ) -> io::Result<Option<Session>>
-    ensures { IfOk result (λ found. IfSome found (λ session. (text : List ℕ) × IsSessionText (S.names_in texts.now) (S.bytes_of texts.now) (folder.now ∷ []) Refused text × IsSpelling SpellsSession session text)) }
+    ensures { IfOk result (λ found. IfSome found (HasText (IsSessionText (S.names_in texts.now) (S.bytes_of texts.now) (folder.now ∷ []) Refused))) }
 {
     keep_memory(alloc);
     let folders = [folder];

@@ -7,9 +7,10 @@ ghost use Rattle.command_texts.specs.Answers.{IsReadFault};
 ghost use Rattle.command_texts.specs.Reasons.{IsNote};
 ghost use Rattle.session_commands.specs.Files.{IsOfFiles};
 ghost use Rattle.session_commands.specs.Found.{AreCompressed, AreFound};
-ghost use Rattle.session_commands.specs.Windows.{EndsWindow, HasWindowLines, IsMadeIn, IsMadeOf, NoSuchPages, outside_words, windowed_text};
+ghost use Rattle.session_commands.specs.Windows.{EndsWindow, HasWindowLines, IsMadeIn, IsMadeOf, outside_words};
+ghost use Rattle.session_commands.specs.declared.windowing.Windowed.TheVariants.{NoSuchPages};
 ghost use Rattle.session_commands.specs.inner.Seen.{IsKnown};
-ghost use Rattle.session_commands.specs.inner.Answered.{HasTable, IsAnsweredAt, IsAnswerTo, IsCutFrom, IsReadAnswer, IsTold};
+ghost use Rattle.session_commands.specs.inner.Answered.{HasTable, IsCutFrom, IsCutFromText, IsCutUnder, IsTold};
 ghost use Rattle.text_access.specs.Names.{files_of, names_of};
 ghost use Rattle.text_access.specs.Written.{BothGain, Gains, MayTell};
 
@@ -25,8 +26,8 @@ use crate::stops::Stop;
 use crate::surveys::find_logs;
 use crate::walk_stops::walk_stop;
 use command_texts::{
-    ACCEPTED, Answer, Console, Fault, SessionTaker, Telling, Why, read_named, refused, remark,
-    tell_why, write_line_on, written,
+    ACCEPTED, Answer, Console, Fault, SessionTaker, Telling, Why, given, read_named, refused,
+    remark, tell_why, write_line_on, written,
 };
 use command_words::Lacking;
 use migration_types::Session;
@@ -36,63 +37,61 @@ use std::io::{ErrorKind, Read, Write};
 use std::mem;
 use std::thread::Threads;
 use text_access::{TextSource, cause_of};
-use text_lines::is_line;
 use walked_sessions::WalkFault;
 use windows::{CutFault, Window, WindowText, cut, push_table};
 
-/// The answer, the table of the window's lines, if it is asked for and there is a window, and why the text is refused, if
-/// it is.
-type Told<'a> = (Answer, Option<Vec<u8>>, Option<Why<'a>>);
+/// The window of a recording, or why there is none.
+#[derive(Drop)]
+pub(crate) enum Windowed {
+    /// The text is refused at this line.
+    SessionText(u32),
+    /// The machine does not have these pages.
+    NoSuchPages,
+    /// The session of these pages.
+    Seen(WindowText),
+}
 
-/// Returns the window of a session, or `None` if its machine does not have these pages.
-#[tactic(auto, using(crate::proofs::Answered::seen_from, crate::proofs::Answered::outside_from))]
-fn cut_session<'a>(
-    alloc: Global,
-    window: Window,
-    name: &'a str,
-    session: &Session,
-) -> Result<Option<WindowText>, Fault<'a>>
+/// Returns the window of a session, unless its machine does not have these pages.
+#[tactic(auto, using(crate::proofs::Answered::seen_from, crate::proofs::Answered::outside_from, crate::proofs::Answered::never_changed))]
+fn cut_session(alloc: Global, window: Window, session: &Session) -> Result<Windowed, Fault<'static>>
     ensures cut { IfOk result (IsCutFrom (λ s. s ≡ session.now) window) }
-    ensures fault { IfErr result (IsReadFault (λ n. n ≡ name.entry.now)) }
+    ensures fault { IfErr result (λ fault. fault ≡ Fault.Memory) }
 {
     match cut(alloc, window, session) {
-        Ok(out) => Ok(Some(out)),
-        Err(CutFault::Outside) => Ok(None),
-        Err(CutFault::Changed) => Err(Fault::File(name, CHANGED)),
+        Ok(out) => Ok(Windowed::Seen(out)),
+        Err(CutFault::Outside) => Ok(Windowed::NoSuchPages),
+        Err(CutFault::Changed) => unreachable!(),
         Err(CutFault::Recording(_) | CutFault::Memory) => Err(Fault::Memory),
     }
 }
 
-/// The cause if a session is not the same in each pass over it.
-const CHANGED: &str = "it changed while it was read";
-
-/// Returns the window of the recording that files make, or `None` if its machine does not have these pages.
+/// Returns the window of the recording that files make, unless its machine does not have these pages.
 #[tactic(auto, using(crate::proofs::Answered::seen_from, crate::proofs::Answered::outside_from))]
 fn cut_recording<S: TextSource>(
     alloc: Global,
     window: Window,
     recording: &FileRecording<'_, S>,
-) -> Result<Option<WindowText>, WalkFault>
+) -> Result<Windowed, WalkFault>
     ensures { IfOk result (IsCutFrom (IsOfFiles S.bytes_of recording.now) window) }
 {
     match cut(alloc, window, recording) {
-        Ok(out) => Ok(Some(out)),
-        Err(CutFault::Outside) => Ok(None),
+        Ok(out) => Ok(Windowed::Seen(out)),
+        Err(CutFault::Outside) => Ok(Windowed::NoSuchPages),
         Err(CutFault::Recording(fault)) => Err(fault),
         Err(CutFault::Changed) => Err(WalkFault::Changed),
         Err(CutFault::Memory) => Err(WalkFault::Memory),
     }
 }
 
-/// Returns the window of a recording that is known, and of which nothing is lacking, or `None` if its machine does not have
-/// these pages.
+/// Returns the window of a recording that is known, and of which nothing is lacking, unless its machine does not have these
+/// pages.
 fn cut_files<S: TextSource>(
     alloc: Global,
     window: Window,
     texts: &S,
     logs: &FoundLogs,
     known: Known,
-) -> Result<Option<WindowText>, Stop>
+) -> Result<Windowed, Stop>
     requires known { IsKnown (S.bytes_of texts.now) logs.now known }
     requires whole { known.said.items ≡ [] }
     ensures { IfOk result (IsCutFrom (IsMadeOf (S.bytes_of texts.now) logs.now) window) }
@@ -115,8 +114,8 @@ fn cut_files<S: TextSource>(
     }
 }
 
-/// Returns the window of the recording that the files found in folders make, or `None` if its machine does not have these
-/// pages. Says what is lacking.
+/// Returns the window of the recording that the files found in folders make, unless its machine does not have these pages.
+/// Says what is lacking.
 #[tactic(auto, using(crate::proofs::Gained::same, crate::proofs::Gained::both))]
 fn cut_found<S: TextSource, E: Write>(
     alloc: Global,
@@ -125,7 +124,7 @@ fn cut_found<S: TextSource, E: Write>(
     folders: &[&str],
     found: &FoundFiles,
     errors: &mut E,
-) -> Result<Option<WindowText>, Unmade>
+) -> Result<Windowed, Unmade>
     requires found { AreFound (S.names_in texts.now) (names_of folders.now) found.now.files.items }
     requires compressed { AreCompressed (S.names_in texts.now) (names_of folders.now) (map string_bytes found.now.compressed.items) }
     ensures cut { IfOk result (IsCutFrom (IsMadeIn (S.names_in texts.now) (S.bytes_of texts.now) (names_of folders.now)) window) }
@@ -144,7 +143,7 @@ fn cut_found<S: TextSource, E: Write>(
     Ok(cut_files(alloc, window, texts, &logs, known)?)
 }
 
-/// Returns the window of the recording that the files in a folder make, or `None` if its machine does not have these pages.
+/// Returns the window of the recording that the files in a folder make, unless its machine does not have these pages.
 /// Answers `None` if the folder cannot be listed. Says what is lacking.
 #[tactic(auto, using(crate::proofs::Gained::same, crate::proofs::Gained::both))]
 fn cut_folder<S: TextSource, E: Write>(
@@ -153,7 +152,7 @@ fn cut_folder<S: TextSource, E: Write>(
     texts: &S,
     folder: &str,
     errors: &mut E,
-) -> Result<Option<Option<WindowText>>, Unmade>
+) -> Result<Option<Windowed>, Unmade>
     ensures cut { IfOk result (λ found. IfSome found (IsCutFrom (IsMadeIn (S.names_in texts.now) (S.bytes_of texts.now) (folder.now ∷ [])) window)) }
     ensures gains { Gains (E.contents errors.old) (E.contents errors.new) }
 {
@@ -203,124 +202,89 @@ fn table_of(alloc: Global, lined: bool, lines: &[u64]) -> Result<Option<Vec<u8>>
 /// The answer that says that the machine does not have the pages of the window.
 const NO_SUCH_PAGES: &[u8] = b"no-such-pages";
 
-/// Returns the answer for what was cut out, and the table of its lines, if it is asked for.
+/// Returns the answer that says what was found, and the table of the window's lines, if there is a window and it is asked
+/// for.
 fn answer_for(
     alloc: Global,
     lined: bool,
-    found: Option<WindowText>,
-) -> Result<(Answer, Option<Vec<u8>>), Fault<'static>>
-    ensures told { IfOk result (λ told. IsTold lined found told.0 told.1) }
-    ensures fault { IfErr result (λ fault. fault ≡ Fault.Memory) }
+    found: Windowed,
+) -> Result<(Answer, Option<Vec<u8>>), AllocError>
+    ensures { IfOk result (λ told. IsTold lined found told.0 told.1) }
 {
     match found {
-        Some(WindowText { text, lines }) => {
-            let Ok(table) = table_of(alloc, lined, lines.as_slice()) else {
-                return Err(Fault::Memory);
-            };
+        Windowed::SessionText(line) => Ok((refused(alloc, b"session-text line ", line)?, None)),
+        Windowed::NoSuchPages => Ok((remark(alloc, NO_SUCH_PAGES)?, None)),
+        Windowed::Seen(WindowText { text, lines }) => {
+            let table = table_of(alloc, lined, lines.as_slice())?;
             let answer = Answer {
                 text,
                 status: ACCEPTED,
             };
             Ok((answer, table))
         }
-        None => match remark(alloc, NO_SUCH_PAGES) {
-            Ok(answer) => Ok((answer, None)),
-            Err(_) => Err(Fault::Memory),
-        },
     }
 }
 
-/// Returns the answer to the recording that the files in a folder make, or `None` if the folder cannot be listed. Says
-/// what is lacking.
-#[tactic(auto, using(crate::proofs::Gained::same, crate::proofs::Gained::both))]
-fn folder_answer<'a, S: TextSource, E: Write>(
+/// Returns the window of the session whose text was read, or why there is none.
+fn cut_read(
     alloc: Global,
     window: Window,
-    lined: bool,
-    name: &'a str,
-    texts: &S,
-    errors: &mut E,
-) -> Result<Option<(Answer, Option<Vec<u8>>)>, Fault<'a>>
-    ensures told { IfOk result (λ found. IfSome found (λ told. IsAnswerTo (IsMadeIn (S.names_in texts.now) (S.bytes_of texts.now) (name.entry.now ∷ [])) window lined told.0 told.1)) }
-    ensures fault { IfErr result (IsReadFault (λ n. n ≡ name.entry.now)) }
-    ensures gains { Gains (E.contents errors.old) (E.contents errors.new) }
-{
-    let found = match cut_folder(alloc, window, texts, name, errors) {
-        Ok(Some(found)) => found,
-        Ok(None) => return Ok(None),
-        Err(why) => return Err(unmade(alloc, texts, name, why, errors)),
-    };
-    Ok(Some(answer_for(alloc, lined, found)?))
-}
-
-/// Returns the answer to what was read of a session's text, and the table of the window's lines.
-fn session_answer<'a>(
-    alloc: Global,
-    window: Window,
-    lined: bool,
-    name: &'a str,
     found: &Result<Session, u32>,
-) -> Result<(Answer, Option<Vec<u8>>), Fault<'a>>
-    ensures told { (text : List ℕ) → IsRead SpellsSession text found.now → IfOk result (λ told. IsReadAnswer text window lined told.0 told.1) }
-    ensures fault { IfErr result (IsReadFault (λ n. n ≡ name.entry.now)) }
+) -> Result<Windowed, Fault<'static>>
+    ensures cut { (text : List ℕ) → IsRead SpellsSession text found.now → IfOk result (IsCutFromText text window) }
+    ensures fault { IfErr result (λ fault. fault ≡ Fault.Memory) }
 {
     match found {
-        Ok(session) => {
-            let cut = cut_session(alloc, window, name, session)?;
-            answer_for(alloc, lined, cut)
-        }
-        Err(line) => match refused(alloc, b"session-text line ", *line) {
-            Ok(answer) => Ok((answer, None)),
-            Err(_) => Err(Fault::Memory),
-        },
+        Ok(session) => cut_session(alloc, window, session),
+        Err(line) => Ok(Windowed::SessionText(*line)),
     }
 }
 
-/// Returns the answer to the session's text under a name.
-fn text_answer<'a, R: Threads + Sync, S: TextSource, I: Read + Send>(
+/// Returns the window of the session whose text is under a name, or why there is none, and why the text is refused, if it is.
+fn cut_text<'a, R: Threads + Sync, S: TextSource, I: Read + Send>(
     rt: &R,
     alloc: Global,
     window: Window,
-    lined: bool,
     name: &'a str,
     texts: &S,
     input: &mut I,
-) -> Result<Told<'a>, Fault<'a>>
+) -> Result<(Windowed, Option<Why<'a>>), Fault<'a>>
 where
     S::Text: Send,
-    ensures told { IfOk result (λ told. IsAnsweredAt window lined name.entry.now (files_of (S.bytes_of texts.now) (S.names_in texts.now)) (S.text_in texts.now) (I.remaining input.old) told.0 told.1 told.2) }
+    ensures cut { IfOk result (λ cut. IsCutUnder window name.entry.now (files_of (S.bytes_of texts.now) (S.names_in texts.now)) (S.text_in texts.now) (I.remaining input.old) cut.0 cut.1) }
     ensures fault { IfErr result (IsReadFault (λ n. n ≡ name.entry.now)) }
 {
     let (found, why) = read_named::<SessionTaker, R, S, I>(rt, alloc, name, texts, input)?;
-    let (answer, table) = session_answer(alloc, window, lined, name, &found)?;
+    let out = cut_read(alloc, window, &found)?;
     mem::forget(found);
-    Ok((answer, table, why))
+    Ok((out, why))
 }
 
-/// Returns the answer to what is under a name: a folder of recorders' files, or a session's text.
-#[tactic(auto, using(crate::proofs::Gained::same, crate::proofs::Answered::folder_answered))]
-fn answer_to<'a, R: Threads + Sync, S: TextSource, I: Read + Send, E: Write>(
+/// Returns the window of what is under a name, a folder of recorders' files or a session's text, or why there is none, and
+/// why the text is refused, if it is. Says what a folder lacks.
+#[tactic(auto, using(crate::proofs::Gained::same, crate::proofs::Answered::folder_cut))]
+fn cut_under<'a, R: Threads + Sync, S: TextSource, I: Read + Send, E: Write>(
     rt: &R,
     alloc: Global,
     window: Window,
-    lined: bool,
     name: &'a str,
     texts: &S,
     input: &mut I,
     errors: &mut E,
-) -> Result<Told<'a>, Fault<'a>>
+) -> Result<(Windowed, Option<Why<'a>>), Fault<'a>>
 where
     S::Text: Send,
-    ensures told { IfOk result (λ told. IsAnsweredAt window lined name.entry.now (files_of (S.bytes_of texts.now) (S.names_in texts.now)) (S.text_in texts.now) (I.remaining input.old) told.0 told.1 told.2) }
+    ensures cut { IfOk result (λ cut. IsCutUnder window name.entry.now (files_of (S.bytes_of texts.now) (S.names_in texts.now)) (S.text_in texts.now) (I.remaining input.old) cut.0 cut.1) }
     ensures fault { IfErr result (IsReadFault (λ n. n ≡ name.entry.now)) }
     ensures gains { Gains (E.contents errors.old) (E.contents errors.new) }
 {
     if name == "-" {
-        return text_answer(rt, alloc, window, lined, name, texts, input);
+        return cut_text(rt, alloc, window, name, texts, input);
     }
-    match folder_answer(alloc, window, lined, name, texts, errors)? {
-        Some((answer, table)) => Ok((answer, table, None)),
-        None => text_answer(rt, alloc, window, lined, name, texts, input),
+    match cut_folder(alloc, window, texts, name, errors) {
+        Ok(Some(found)) => Ok((found, None)),
+        Ok(None) => cut_text(rt, alloc, window, name, texts, input),
+        Err(why) => Err(unmade(alloc, texts, name, why, errors)),
     }
 }
 
@@ -328,11 +292,18 @@ where
 const OUTSIDE: &str =
     "the window has no page, or one that the machine of this recording does not have";
 
-/// Writes why nothing was cut out, if the answer says that the machine does not have the pages of the window.
-fn tell_outside<E: Write>(name: &str, answer: &Answer, errors: &mut E)
-    ensures { MayTell (IsNote (λ words. (answer.now.text.items ≡ windowed_text NoSuchPages) × (words ≡ outside_words)) name.now) (E.contents errors.old) (E.contents errors.new) }
+/// Returns whether there is no window since the machine does not have its pages.
+fn is_outside(found: &Windowed) -> bool
+    ensures { result ≡ true → found.now ≡ NoSuchPages }
 {
-    if is_line(answer.text.as_slice(), b"no-such-pages\n") {
+    matches!(found, Windowed::NoSuchPages)
+}
+
+/// Writes why nothing was cut out, if the machine does not have the pages of the window.
+fn tell_outside<E: Write>(name: &str, outside: bool, errors: &mut E)
+    ensures { MayTell (IsNote (λ words. (outside ≡ true) × (words ≡ outside_words)) name.now) (E.contents errors.old) (E.contents errors.new) }
+{
+    if outside {
         write_line_on(errors, name, OUTSIDE);
     }
 }
@@ -366,19 +337,20 @@ where
     ensures kept { result ≢ Ok 0 → lines.new ≡ lines.old }
     ensures gains { BothGain (O.contents console.old.output, E.contents console.old.errors) (O.contents console.new.output, E.contents console.new.errors) }
 {
-    let (answer, table, why) = answer_to(
+    let (found, why) = cut_under(
         console.rt,
         console.alloc,
         window,
-        lined,
         name,
         console.texts,
         &mut console.input,
         &mut console.errors,
     )?;
+    let outside = is_outside(&found);
+    let (answer, table) = given(answer_for(console.alloc, lined, found))?;
     let status = written(&answer, &mut console.output)?;
     tell_why(console.alloc, &why, Telling::Short, &mut console.errors);
-    tell_outside(name, &answer, &mut console.errors);
+    tell_outside(name, outside, &mut console.errors);
     put(lines, table);
     Ok(status)
 }

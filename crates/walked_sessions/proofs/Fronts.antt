@@ -1,15 +1,18 @@
 -- What was met of a recording, cut to a front.
-use Rattle.std.proofs.Common.{◌≡◌, ℕ, ◌<◌, ◌≤◌, List, [], ◌∷◌, ◌++◌, length, take, refl, sym, ap, ◌∙◌, length-append, arith}
+use Rattle.std.specs.Prelude.{◌↔◌, IsTrue}
+use Rattle.std.proofs.Common.{◌≡◌, Bool, true, false, subst, ℕ, ◌<◌, ◌≤◌, ◌⊎◌, inl, inr, List, [], ◌∷◌, ◌++◌, length, take, refl, sym, ap, ◌∙◌, length-append, arith}
+use Rattle.std.proofs.lemmas.Bool.{cases_lt}
 use Rattle.std.proofs.lemmas.List.{length-take, take-append-le, take_all}
 use Rattle.migration_types.specs.declared.records.GuestRec.{GuestRec}
 use Rattle.migration_types.specs.declared.records.SourceRec.{SourceRec}
 use Rattle.migration_types.specs.declared.records.LinkRec.{LinkRec}
 use Rattle.migration_types.specs.declared.records.LaneRec.{LaneRec}
 use Rattle.migration_types.specs.declared.records.PagerRec.{PagerRec}
+use Rattle.migration_types.specs.declared.records.LogName.{LogName}
 use Rattle.migration_types.specs.declared.records.LogName.TheVariants.{Guest, Source, Link, Lane, Pager}
 use Rattle.migration_types.specs.declared.version.Version.{Version}
 use Rattle.migration_types.specs.declared.version.Version.TheVariants.{One, Two}
-use Rattle.migration_types.specs.Sessions.{Recorded}
+use Rattle.migration_types.specs.Sessions.{Recorded, HasLane, HasLog}
 use Rattle.audit_model.specs.Mergings.{Cursors}
 use Rattle.text_lines.specs.Text.{ended, closing}
 use Rattle.session_grammar.specs.Grammar.{page_line, init_key, with_lane}
@@ -17,13 +20,16 @@ use Rattle.session_grammar.specs.Records.{guest_key, source_key, link_key, lane_
 use Rattle.session_grammar.specs.inner.Held.{part_onto, geometry_onto, lane_part_onto}
 use Rattle.session_grammar.proofs.Laws.{pager_lines, lane_lines, link_lines, source_lines, guest_lines}
 use Rattle.session_grammar.proofs.Sections.{onto_whole}
-use Rattle.recordings.specs.Seen.{with_guest, with_source, with_link, with_lane as and_lane_rec, with_pager}
+use Rattle.recordings.specs.Seen.{IsNext, with_record}
+use Rattle.recordings.specs.Wide.{guest_of, source_of, link_of, lane_of, pager_of, log_of}
+use Rattle.recordings.specs.declared.wide.Wide.{Wide}
+use Rattle.recordings.specs.declared.wide.Wide.TheVariants as wide
 use Rattle.recordings.specs.inner.Held.{SessionDraft, Part, IsWhole}
 use Rattle.recorder_files.specs.declared.fronts.Front.{Front}
 use Rattle.recorder_files.specs.Fronts.{cursors_of, cut_to}
 use Rattle.walked_sessions.specs.declared.text.Text.{Text}
 use Rattle.walked_sessions.specs.Written.{text_of, HasRecords}
-use Rattle.walked_sessions.specs.inner.Made.{cut_part, lane_part, draft_of, with_item, and_guest, and_source, and_link, and_lane, and_pager, IsEnded}
+use Rattle.walked_sessions.specs.inner.Made.{cut_part, lane_part, draft_of, with_item, and_record, IsEnded}
 
 -- ---- one more record
 
@@ -38,54 +44,54 @@ within {X} n log x lt =
     let few : length log ≤ n = omega arith in
     ap (λ (xs : List X). record { count = n; items = xs }) (take_all n (log ++ x ∷ []) more ∙ ap (λ (xs : List X). xs ++ x ∷ []) (sym (take_all n log few)))
 
-module _ (init : ℕ) (c : Cursors) (s : Recorded) where
+past_lane : (version : Version) (n : ℕ) (log : List LaneRec) (x : LaneRec) → (HasLane version → n ≤ length log) → lane_part version n (log ++ x ∷ []) ≡ lane_part version n log
+past_lane One n log x le = refl
+past_lane Two n log x le = past n log x (le tt)
+
+within_lane : (version : Version) (n : ℕ) (log : List LaneRec) (x : LaneRec) → HasLane version → length log < n → lane_part version n (log ++ x ∷ []) ≡ with_item (lane_part version n log) x
+within_lane One n log x has lt = absurd has
+within_lane Two n log x has lt = within n log x lt
+
+reached : (n number most : ℕ) → n ≡ number → (number < most → ⊥) → most ≤ n
+reached n number most is none = go (cases_lt number most)
+  where
+    go : (number < most) ⊎ (most ≤ number) → most ≤ n
+    go (inl lt) = absurd (none lt)
+    go (inr le) = omega (arith, is, le)
+
+below : (n number most : ℕ) → n ≡ number → number < most → n < most
+below n number most is lt = omega arith
+
+pub in_front : (there front : Front) (log of : LogName) (n : ℕ) → n ≡ cursors_of there log → log ≡ of → there ≡ front → n ≡ cursors_of front of
+in_front there front log of n is at same = is ∙ (ap (cursors_of there) at ∙ ap (λ f. cursors_of f of) same)
+
+pub above : (n most number : ℕ) → n ≡ most → n ≤ number → number < most → ⊥
+above n most number is le lt = omega (arith, is, le, lt)
+
+-- whether the version has the log
+pub has_log : (version of : Version) (log name : LogName) (is_in : Bool) → version ≡ of → log ≡ name → IsTrue is_in ↔ HasLog of log → is_in ≡ true → HasLog version name
+has_log version of log name is_in same at has there = subst (λ v. HasLog v name) (sym same) (subst (HasLog of) at (has.0 there))
+
+pub has_no_log : (version of : Version) (log name : LogName) (is_in : Bool) → version ≡ of → log ≡ name → IsTrue is_in ↔ HasLog of log → is_in ≡ false → HasLog version name → ⊥
+has_no_log version of log name is_in same at has missing is = let there : is_in ≡ true = has.1 (subst (HasLog of) (sym at) (subst (λ v. HasLog v name) same is)) in absurd (cc)
+
+module _ (init : ℕ) (c : Cursors) (s : Recorded) (number : ℕ) where
   abbrev d : SessionDraft
   d = draft_of init c s
 
-  pub past_guest : (x : GuestRec) → c Guest ≤ length s.guest → draft_of init c (with_guest s x) ≡ d
-  past_guest x le = ap (λ (part : Part GuestRec). record d { guest = part }) (past (c Guest) s.guest x le)
+  pub past_record : (rec : Wide) → IsNext s number rec → (HasLog s.version (log_of rec) → number < c (log_of rec) → ⊥) → draft_of init c (with_record s rec) ≡ d
+  past_record (wide.Guest r) next none = ap (λ (part : Part GuestRec). record d { guest = part }) (past (c Guest) s.guest (guest_of r) (reached (length s.guest) number (c Guest) next.1 (none tt)))
+  past_record (wide.Source r) next none = ap (λ (part : Part SourceRec). record d { source = part }) (past (c Source) s.source (source_of r) (reached (length s.source) number (c Source) next.1 (none tt)))
+  past_record (wide.Link r) next none = ap (λ (part : Part LinkRec). record d { link = part }) (past (c Link) s.link (link_of r) (reached (length s.link) number (c Link) next.1 (none tt)))
+  past_record (wide.Lane r) next none = ap (λ (part : Part LaneRec). record d { lane = part }) (past_lane s.version (c Lane) s.lane (lane_of r) (λ has. reached (length s.lane) number (c Lane) next.1 (none has)))
+  past_record (wide.Pager r) next none = ap (λ (part : Part PagerRec). record d { pager = part }) (past (c Pager) s.pager (pager_of r) (reached (length s.pager) number (c Pager) next (none tt)))
 
-  pub more_guest : (x : GuestRec) → length s.guest < c Guest → draft_of init c (with_guest s x) ≡ and_guest d x
-  more_guest x lt = ap (λ (part : Part GuestRec). record d { guest = part }) (within (c Guest) s.guest x lt)
-
-  pub past_source : (x : SourceRec) → c Source ≤ length s.source → draft_of init c (with_source s x) ≡ d
-  past_source x le = ap (λ (part : Part SourceRec). record d { source = part }) (past (c Source) s.source x le)
-
-  pub more_source : (x : SourceRec) → length s.source < c Source → draft_of init c (with_source s x) ≡ and_source d x
-  more_source x lt = ap (λ (part : Part SourceRec). record d { source = part }) (within (c Source) s.source x lt)
-
-  pub past_link : (x : LinkRec) → c Link ≤ length s.link → draft_of init c (with_link s x) ≡ d
-  past_link x le = ap (λ (part : Part LinkRec). record d { link = part }) (past (c Link) s.link x le)
-
-  pub more_link : (x : LinkRec) → length s.link < c Link → draft_of init c (with_link s x) ≡ and_link d x
-  more_link x lt = ap (λ (part : Part LinkRec). record d { link = part }) (within (c Link) s.link x lt)
-
-  pub past_pager : (x : PagerRec) → c Pager ≤ length s.pager → draft_of init c (with_pager s x) ≡ d
-  past_pager x le = ap (λ (part : Part PagerRec). record d { pager = part }) (past (c Pager) s.pager x le)
-
-  pub more_pager : (x : PagerRec) → length s.pager < c Pager → draft_of init c (with_pager s x) ≡ and_pager d x
-  more_pager x lt = ap (λ (part : Part PagerRec). record d { pager = part }) (within (c Pager) s.pager x lt)
-
-  past_part : (version : Version) (n : ℕ) (log : List LaneRec) (x : LaneRec) → n ≤ length log → lane_part version n (log ++ x ∷ []) ≡ lane_part version n log
-  past_part One n log x le = refl
-  past_part Two n log x le = past n log x le
-
-  pub past_lane : (x : LaneRec) → c Lane ≤ length s.lane → draft_of init c (and_lane_rec s x) ≡ d
-  past_lane x le = ap (λ (part : Part LaneRec). record d { lane = part }) (past_part s.version (c Lane) s.lane x le)
-
-  no_part : (version : Version) (n : ℕ) (log : List LaneRec) (x : LaneRec) → version ≡ One → lane_part version n (log ++ x ∷ []) ≡ lane_part version n log
-  no_part One n log x is = refl
-  no_part Two n log x is = absurd (cc)
-
-  pub no_lane : (x : LaneRec) → s.version ≡ One → draft_of init c (and_lane_rec s x) ≡ d
-  no_lane x is = ap (λ (part : Part LaneRec). record d { lane = part }) (no_part s.version (c Lane) s.lane x is)
-
-  more_part : (version : Version) (n : ℕ) (log : List LaneRec) (x : LaneRec) → version ≡ Two → length log < n → lane_part version n (log ++ x ∷ []) ≡ with_item (lane_part version n log) x
-  more_part One n log x is lt = absurd (cc)
-  more_part Two n log x is lt = within n log x lt
-
-  pub more_lane : (x : LaneRec) → s.version ≡ Two → length s.lane < c Lane → draft_of init c (and_lane_rec s x) ≡ and_lane d x
-  more_lane x is lt = ap (λ (part : Part LaneRec). record d { lane = part }) (more_part s.version (c Lane) s.lane x is lt)
+  pub more_record : (rec : Wide) → IsNext s number rec → HasLog s.version (log_of rec) → number < c (log_of rec) → draft_of init c (with_record s rec) ≡ and_record d rec
+  more_record (wide.Guest r) next has lt = ap (λ (part : Part GuestRec). record d { guest = part }) (within (c Guest) s.guest (guest_of r) (below (length s.guest) number (c Guest) next.1 lt))
+  more_record (wide.Source r) next has lt = ap (λ (part : Part SourceRec). record d { source = part }) (within (c Source) s.source (source_of r) (below (length s.source) number (c Source) next.1 lt))
+  more_record (wide.Link r) next has lt = ap (λ (part : Part LinkRec). record d { link = part }) (within (c Link) s.link (link_of r) (below (length s.link) number (c Link) next.1 lt))
+  more_record (wide.Lane r) next has lt = ap (λ (part : Part LaneRec). record d { lane = part }) (within_lane s.version (c Lane) s.lane (lane_of r) has (below (length s.lane) number (c Lane) next.1 lt))
+  more_record (wide.Pager r) next has lt = ap (λ (part : Part PagerRec). record d { pager = part }) (within (c Pager) s.pager (pager_of r) (below (length s.pager) number (c Pager) next lt))
 
 -- ---- the whole text
 

@@ -16,8 +16,7 @@ use Rattle.recorder_files.specs.declared.raw.RawSource.{RawSource}
 use Rattle.recorder_files.specs.declared.raw.RawPager.{RawPager}
 use Rattle.recorder_files.specs.Told.{lane_packet, link_packet, numbered_pager, numbered_source, request, told_from}
 use Rattle.recorder_files.proofs.Noted.{kept}
-use Rattle.walked_sessions.specs.declared.takers.LinkTaker.{LinkTaker}
-use Rattle.walked_sessions.specs.declared.takers.LaneTaker.{LaneTaker}
+use Rattle.walked_sessions.specs.declared.takers.CarrierTaker.{CarrierTaker}
 use Rattle.walked_sessions.specs.declared.takers.SourceTaker.{SourceTaker}
 use Rattle.walked_sessions.specs.declared.takers.PagerTaker.{PagerTaker}
 use Rattle.walked_sessions.specs.Walks.{AreNumbered, IsDown, IsNumberOf, IsUp}
@@ -82,18 +81,18 @@ source_none Met t v = record {
   met = λ d before none met deliveries count are. ([], numbered_none numbered_source (IsUp deliveries count), subst (λ rs. Met v (with_sources d rs)) none met);
 }
 
-pub source_more : {V : Type 0} (Met : V → Recorded → Type 0) (first before after : SourceTaker) (from was now : V) (records : List RawSource) (raw : RawSource) (number up : ℕ) (rec : SourceRec) (message : Option Message) → number ≡ length records → message ≡ request number raw → Passes before.link after.link message up → rec ≡ numbered_source up raw → ((d : Recorded) → BeforeLink d → length d.source ≡ number → Met was d → Met now (with_source d rec)) → MeetsSource Met first from before was records → MeetsSource Met first from after now (records ++ raw ∷ [])
+pub source_more : {V : Type 0} (Met : V → Recorded → Type 0) (first before after : SourceTaker) (from was now : V) (records : List RawSource) (raw : RawSource) (number up : ℕ) (rec : SourceRec) (message : Option Message) → number ≡ length records → message ≡ request number raw → Passes before.link after.link message up → rec ≡ numbered_source up raw → ((d : Recorded) → BeforeLink d × (length d.source ≡ number) → Met was d → Met now (with_source d rec)) → MeetsSource Met first from before was records → MeetsSource Met first from after now (records ++ raw ∷ [])
 source_more Met first before after from was now records raw number up rec message e takes passes is next meets = record {
   passed = subst (HasPassed first.link after.link) (kept request number records raw (told_from request 0 records) (told_from request 0 records ++ option_to_list message) message e refl takes refl) (has_passed_more first.link before.link after.link (told_from request 0 records) message up meets.passed passes);
   met = λ d bef none start deliveries count are.
       let w = meets.met d bef none start deliveries count are in
       let numbered : IsUp deliveries count number raw up = subst (λ o. IfSome o (λ m. IsNumberOf deliveries count m up)) takes (passes.numbered deliveries count (are_numbers_there first.link before.link (told_from request 0 records) deliveries count meets.passed are)) in
-      (w.0 ++ rec ∷ [], numbered_more numbered_source (IsUp deliveries count) records w.0 raw rec number up e numbered is w.1, next (with_sources d w.0) bef (w.1.many ∙ sym e) w.2);
+      (w.0 ++ rec ∷ [], numbered_more numbered_source (IsUp deliveries count) records w.0 raw rec number up e numbered is w.1, next (with_sources d w.0) (bef, w.1.many ∙ sym e) w.2);
 }
 
 -- ---- the link and the lane
 
-pub link_none : {V : Type 0} (Met : V → Recorded → Type 0) (t : LinkTaker) (v : V) → t.is_met ≡ false → MeetsLink Met t v t v []
+pub link_none : {V : Type 0} (Met : V → Recorded → Type 0) (t : CarrierTaker) (v : V) → t.is_met ≡ false → MeetsLink Met t v t v []
 link_none Met t v none_met = record {
   told = refl;
   none = λ e. refl;
@@ -101,7 +100,7 @@ link_none Met t v none_met = record {
   met = λ d before none met. subst (λ ls. Met v (record { version = d.version; geometry = d.geometry; init = d.init; guest = d.guest; source = d.source; link = ls; lane = d.lane; pager = d.pager })) none met;
 }
 
-pub lane_none : {V : Type 0} (Met : V → Recorded → Type 0) (t : LaneTaker) (v : V) → t.is_met ≡ false → MeetsLane Met t v t v []
+pub lane_none : {V : Type 0} (Met : V → Recorded → Type 0) (t : CarrierTaker) (v : V) → t.is_met ≡ false → MeetsLane Met t v t v []
 lane_none Met t v none_met = record {
   told = refl;
   none = λ e. refl;

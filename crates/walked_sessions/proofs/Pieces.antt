@@ -1,10 +1,10 @@
 -- What is known of a text and its output, where a piece is written.
-use Rattle.std.proofs.Common.{◌≡◌, ℕ, zero, suc, length, drop, ◌+◌, ◌<◌, take, add-zero, arith, List, [], ◌++◌, Option, Some, None, refl, sym, ap, subst, ◌∙◌}
+use Rattle.std.proofs.Common.{◌≡◌, ℕ, zero, suc, length, drop, ◌+◌, take, add-zero, List, [], ◌++◌, Option, Some, None, refl, sym, ap, subst, ◌∙◌}
 use Rattle.std.proofs.lemmas.List.{append-nil, take-append-drop}
 use Rattle.std.proofs.Math.Seq.{take-append_seam}
 use Rattle.text_access.specs.Written.{Gains}
 use Rattle.text_access.proofs.Fronts.{both_gain}
-use Rattle.std.specs.Prelude.{Result, Ok, Err, OnOk, IsOk, false}
+use Rattle.std.specs.Prelude.{Result, Ok, Err, OnOk, IsOk, true, false}
 use Rattle.std.specs.Option.{is_some}
 use Rattle.std.specs.Io.KnownBytes.{Appends}
 use Rattle.std.proofs.KnownBytes.{Appends-nil, Appends-trans, Appends-kept}
@@ -103,12 +103,17 @@ meets_more start known next front pages old mid new pushed fault s more e stands
       holds = subst (Holds start next new) (sym draft) all;
     }
 
+-- nothing is appended, since the record has no place in the text
+pub meets_past : (start known : Option (List ℕ)) (front : Front) (pages : ℕ) (t : Text) (s more : Recorded) → draft_of t.init (cursors_of front) more ≡ draft_of t.init (cursors_of front) s → MeetsWell start front pages known t s → MeetsWell start front pages known t more
+meets_past start known front pages t s more is m = record { front = m.front; init = m.init; holds = subst (Holds start known t) (sym is) m.holds }
+
 pub none_of : {A : Type 0} (o : Option A) → false ≡ is_some o → o ≡ None
 none_of None e = refl
 none_of (Some x) e = absurd (cc)
 
-pub below : (a b n number : ℕ) → a ≡ b → n ≡ number → number < a → n < b
-below a b n number e f lt = omega arith
+pub some_of : {A : Type 0} (o : Option A) → true ≡ is_some o → o ≡ None → ⊥
+some_of None e is = absurd (cc)
+some_of (Some x) e is = absurd (cc)
 
 pub any_ok : {T E P : Type 0} (r : Result T E) → P → OnOk r P
 any_ok (Ok x) p = p

@@ -25,8 +25,7 @@ use Rattle.recorder_files.specs.Logs.{Gathering, IsGatherFault}
 use Rattle.recorder_files.specs.Records.{IsLogFault, IsTakingFault}
 use Rattle.walked_sessions.specs.declared.files.WalkFault.{WalkFault}
 use Rattle.walked_sessions.specs.declared.files.WalkFault.TheVariants.{Log, OwnLog, Changed, Memory}
-use Rattle.walked_sessions.specs.declared.takers.LinkTaker.{LinkTaker}
-use Rattle.walked_sessions.specs.declared.takers.LaneTaker.{LaneTaker}
+use Rattle.walked_sessions.specs.declared.takers.CarrierTaker.{CarrierTaker}
 use Rattle.walked_sessions.specs.Faults.{HasFault, HasLogFault, IsNoteFault, IsOpenFault, IsWalkFault}
 use Rattle.walked_sessions.specs.Walks.{Bytes, IsOwnLog}
 use Rattle.walked_sessions.specs.inner.Meeting.{MeetsLane, MeetsLink}
@@ -90,44 +89,26 @@ plain_begun {X} line IsOf log party knowns why fault is told = plain_of line IsO
 pub plain_taking : {X T S : Type 0} (line : X → List ℕ) (IsOf : X → Type 0) (Takes : T → S → T → S → List X → Type 0) (IsUnfit : T → ℕ → X → Type 0) (log : LogName) (party : Party) (knowns : List (Option (List ℕ))) (g : Gathering) (taker : T) (onto : S) (taking : TakingFault) (why : LogFault) (fault : WalkFault) → taking ≡ Taking why → IsTakingFault line IsOf Takes IsUnfit party knowns g taker onto taking → ((n : ℕ) → taking ≢ Taking (Files (Missing n))) → IsFaultOf log why fault → IsPlain line IsOf log party knowns fault
 plain_taking line IsOf Takes IsUnfit log party knowns g taker onto taking why fault same is to_hole told = plain_of line IsOf log party knowns g why fault (subst (IsTakingFault line IsOf Takes IsUnfit party knowns g taker onto) same is) (λ n e. to_hole n (same ∙ ap Taking e)) told
 
-guest_plain : (machine : WideMachine) (bytes : Bytes) (messages : Delivered) (fault : WalkFault) → IsPlain (λ r. guest_line (guest_of r)) (λ r. IsGuestRecOf (extent_of machine) (guest_of r)) Guest (Of Guest) (bytes Guest) fault → IsWalkFault machine bytes messages fault
-guest_plain machine bytes messages (Log other why) plain = subst (λ l. HasFault machine bytes l why) (sym plain.0) plain.1
-guest_plain machine bytes messages (OwnLog other by n) plain = absurd plain
-guest_plain machine bytes messages Changed plain = absurd plain
-guest_plain machine bytes messages Memory plain = tt
-
-link_plain : (machine : WideMachine) (bytes : Bytes) (messages : Delivered) (fault : WalkFault) → IsPlain (λ r. link_line (link_of r)) (λ r. IsLinkRecOf (link_of r)) Link (Of Link) (bytes Link) fault → IsWalkFault machine bytes messages fault
-link_plain machine bytes messages (Log other why) plain = subst (λ l. HasFault machine bytes l why) (sym plain.0) plain.1
-link_plain machine bytes messages (OwnLog other by n) plain = absurd plain
-link_plain machine bytes messages Changed plain = absurd plain
-link_plain machine bytes messages Memory plain = tt
-
-lane_plain : (machine : WideMachine) (bytes : Bytes) (messages : Delivered) (fault : WalkFault) → IsPlain (λ r. lane_line (lane_of r)) (λ r. IsLaneRecOf machine.version (lane_of r)) Lane (Of Lane) (bytes Lane) fault → IsWalkFault machine bytes messages fault
-lane_plain machine bytes messages (Log other why) plain = subst (λ l. HasFault machine bytes l why) (sym plain.0) plain.1
-lane_plain machine bytes messages (OwnLog other by n) plain = absurd plain
-lane_plain machine bytes messages Changed plain = absurd plain
-lane_plain machine bytes messages Memory plain = tt
+plain_fault : {X : Type 0} (line : X → List ℕ) (IsOf : X → Type 0) (machine : WideMachine) (bytes : Bytes) (messages : Delivered) (log : LogName) → ((why : LogFault) → HasLogFault line IsOf (Of log) (bytes log) why → HasFault machine bytes log why) → (fault : WalkFault) → IsPlain line IsOf log (Of log) (bytes log) fault → IsWalkFault machine bytes messages fault
+plain_fault line IsOf machine bytes messages log has (Log other why) plain = subst (λ l. HasFault machine bytes l why) (sym plain.0) (has why plain.1)
+plain_fault line IsOf machine bytes messages log has (OwnLog other by n) plain = absurd plain
+plain_fault line IsOf machine bytes messages log has Changed plain = absurd plain
+plain_fault line IsOf machine bytes messages log has Memory plain = tt
 
 pub source_plain : (machine : WideMachine) (bytes : Bytes) (messages : Delivered) (fault : WalkFault) → IsPlain raw_source_line (IsRawSourceOf (extent_of machine)) Source (Of Source) (bytes Source) fault → IsWalkFault machine bytes messages fault
-source_plain machine bytes messages (Log other why) plain = subst (λ l. HasFault machine bytes l why) (sym plain.0) plain.1
-source_plain machine bytes messages (OwnLog other by n) plain = absurd plain
-source_plain machine bytes messages Changed plain = absurd plain
-source_plain machine bytes messages Memory plain = tt
+source_plain machine bytes messages = plain_fault raw_source_line (IsRawSourceOf (extent_of machine)) machine bytes messages Source (λ why has. has)
 
 pub pager_plain : (machine : WideMachine) (bytes : Bytes) (messages : Delivered) (fault : WalkFault) → IsPlain raw_pager_line (IsRawPagerOf machine.version (extent_of machine)) Pager (Of Pager) (bytes Pager) fault → IsWalkFault machine bytes messages fault
-pager_plain machine bytes messages (Log other why) plain = subst (λ l. HasFault machine bytes l why) (sym plain.0) plain.1
-pager_plain machine bytes messages (OwnLog other by n) plain = absurd plain
-pager_plain machine bytes messages Changed plain = absurd plain
-pager_plain machine bytes messages Memory plain = tt
+pager_plain machine bytes messages = plain_fault raw_pager_line (IsRawPagerOf machine.version (extent_of machine)) machine bytes messages Pager (λ why has. has)
 
 -- any record of the guest is for its taker
 pub guest_fault : {T S : Type 0} (Takes : T → S → T → S → List WideGuest → Type 0) (machine : WideMachine) (bytes : Bytes) (messages : Delivered) (taker : T) (from : S) (unfit fault : WalkFault) → IsTakeFault (λ r. guest_line (guest_of r)) (λ r. IsGuestRecOf (extent_of machine) (guest_of r)) Takes (λ t n rec. ⊥) Guest (Of Guest) (bytes Guest) taker from unfit fault → IsWalkFault machine bytes messages fault
-guest_fault Takes machine bytes messages taker from unfit fault (inl plain) = guest_plain machine bytes messages fault plain
+guest_fault Takes machine bytes messages taker from unfit fault (inl plain) = plain_fault (λ r. guest_line (guest_of r)) (λ r. IsGuestRecOf (extent_of machine) (guest_of r)) machine bytes messages Guest (λ why has. has) fault plain
 guest_fault Takes machine bytes messages taker from unfit fault (inr refused) = absurd refused.1.at.unfit
 
 -- the link has records of its own
-pub link_fault : {V : Type 0} (Met : V → Recorded → Type 0) (machine : WideMachine) (bytes : Bytes) (messages : Delivered) (first : LinkTaker) (from : V) (unfit fault : WalkFault) → first.is_met ≡ false → (messages.link_messages.items ≡ [] → first.is_told ≡ false) → ((messages.link_messages.items ≡ [] → ⊥) → IsTakingOne Link messages.link_messages.items unfit) → IsTakeFault (λ r. link_line (link_of r)) (λ r. IsLinkRecOf (link_of r)) (MeetsLink Met) (λ taker n rec. taker.is_told ≡ true) Link (Of Link) (bytes Link) first from unfit fault → IsWalkFault machine bytes messages fault
-link_fault Met machine bytes messages first from unfit fault unmet empty taking (inl plain) = link_plain machine bytes messages fault plain
+pub link_fault : {V : Type 0} (Met : V → Recorded → Type 0) (machine : WideMachine) (bytes : Bytes) (messages : Delivered) (first : CarrierTaker) (from : V) (unfit fault : WalkFault) → first.is_met ≡ false → (messages.link_messages.items ≡ [] → first.is_told ≡ false) → ((messages.link_messages.items ≡ [] → ⊥) → IsTakingOne Link messages.link_messages.items unfit) → IsTakeFault (λ r. link_line (link_of r)) (λ r. IsLinkRecOf (link_of r)) (MeetsLink Met) (λ taker n rec. taker.is_told ≡ true) Link (Of Link) (bytes Link) first from unfit fault → IsWalkFault machine bytes messages fault
+link_fault Met machine bytes messages first from unfit fault unmet empty taking (inl plain) = plain_fault (λ r. link_line (link_of r)) (λ r. IsLinkRecOf (link_of r)) machine bytes messages Link (λ why has. has) fault plain
 link_fault Met machine bytes messages first from unfit fault unmet empty taking (inr refused) =
     let at = refused.1.at in
     let told : first.is_told ≡ true = sym (at.took first from (link_none Met first from unmet)).told ∙ at.unfit in
@@ -147,8 +128,8 @@ link_fault Met machine bytes messages first from unfit fault unmet empty taking 
     subst (IsWalkFault machine bytes messages) (sym (refused.0 ∙ one.taking.is)) own
 
 -- the lane has records of its own
-pub lane_fault : {V : Type 0} (Met : V → Recorded → Type 0) (machine : WideMachine) (bytes : Bytes) (messages : Delivered) (first : LaneTaker) (from : V) (unfit fault : WalkFault) → first.is_met ≡ false → (messages.lane_messages.items ≡ [] → first.is_told ≡ false) → ((messages.lane_messages.items ≡ [] → ⊥) → IsTakingOne Lane messages.lane_messages.items unfit) → IsTakeFault (λ r. lane_line (lane_of r)) (λ r. IsLaneRecOf machine.version (lane_of r)) (MeetsLane Met) (λ taker n rec. taker.is_told ≡ true) Lane (Of Lane) (bytes Lane) first from unfit fault → IsWalkFault machine bytes messages fault
-lane_fault Met machine bytes messages first from unfit fault unmet empty taking (inl plain) = lane_plain machine bytes messages fault plain
+pub lane_fault : {V : Type 0} (Met : V → Recorded → Type 0) (machine : WideMachine) (bytes : Bytes) (messages : Delivered) (first : CarrierTaker) (from : V) (unfit fault : WalkFault) → first.is_met ≡ false → (messages.lane_messages.items ≡ [] → first.is_told ≡ false) → ((messages.lane_messages.items ≡ [] → ⊥) → IsTakingOne Lane messages.lane_messages.items unfit) → IsTakeFault (λ r. lane_line (lane_of r)) (λ r. IsLaneRecOf machine.version (lane_of r)) (MeetsLane Met) (λ taker n rec. taker.is_told ≡ true) Lane (Of Lane) (bytes Lane) first from unfit fault → IsWalkFault machine bytes messages fault
+lane_fault Met machine bytes messages first from unfit fault unmet empty taking (inl plain) = plain_fault (λ r. lane_line (lane_of r)) (λ r. IsLaneRecOf machine.version (lane_of r)) machine bytes messages Lane (λ why has. has) fault plain
 lane_fault Met machine bytes messages first from unfit fault unmet empty taking (inr refused) =
     let at = refused.1.at in
     let told : first.is_told ≡ true = sym (at.took first from (lane_none Met first from unmet)).told ∙ at.unfit in

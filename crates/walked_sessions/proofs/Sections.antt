@@ -2,11 +2,6 @@
 use Rattle.std.proofs.Common.{◌≡◌, ℕ, ◌+◌, ◌≤◌, List, [], ◌∷◌, ◌++◌, length, refl, sym, ap, subst, ◌∙◌, append_assoc, length-append, arith}
 use Rattle.std.specs.Fmt.{decimal}
 use Rattle.migration_types.specs.declared.pages.InitPage.{InitPage}
-use Rattle.migration_types.specs.declared.records.GuestRec.{GuestRec}
-use Rattle.migration_types.specs.declared.records.SourceRec.{SourceRec}
-use Rattle.migration_types.specs.declared.records.LinkRec.{LinkRec}
-use Rattle.migration_types.specs.declared.records.LaneRec.{LaneRec}
-use Rattle.migration_types.specs.declared.records.PagerRec.{PagerRec}
 use Rattle.migration_types.specs.declared.version.Version.{Version}
 use Rattle.migration_types.specs.declared.version.Version.TheVariants.{One, Two}
 use Rattle.text_lines.specs.Text.{closing}
@@ -16,11 +11,14 @@ use Rattle.session_grammar.specs.declared.stage.Stage.TheVariants as stage
 use Rattle.session_grammar.specs.inner.Held.{geometry_onto, init_onto, guest_onto, source_onto, link_onto, lane_part_onto, lane_onto}
 use Rattle.session_grammar.proofs.Sections.{onto_push}
 use Rattle.session_grammar.proofs.ByVersion.{lane_is}
+use Rattle.recordings.specs.Wide.{guest_of, source_of, link_of, lane_of, pager_of, log_of, wide_line}
+use Rattle.recordings.specs.declared.wide.Wide.{Wide}
+use Rattle.recordings.specs.declared.wide.Wide.TheVariants as wide
 use Rattle.recordings.specs.inner.Held.{SessionDraft, Part, IsWhole, held_onto, came_at, announced_at}
 use Rattle.walked_sessions.specs.declared.text.ListKind.{ListKind}
 use Rattle.walked_sessions.specs.declared.text.ListKind.TheVariants as section
 use Rattle.walked_sessions.specs.declared.text.Text.{Text}
-use Rattle.walked_sessions.specs.inner.Made.{stage_of, rank, lane_count, AreCounts, Lives, Stands, IsSame, Begins, Takes, IsEnded, with_item, and_init, and_guest, and_source, and_link, and_lane, and_pager}
+use Rattle.walked_sessions.specs.inner.Made.{stage_of, rank, lane_count, AreCounts, Lives, Stands, IsSame, Begins, Takes, IsEnded, list_of, with_item, and_init, and_record}
 use Rattle.walked_sessions.proofs.Lines.{text_more, fresh_onto, counts_kept, StandsAt, stands_at, stands_there}
 
 -- ---- a list begins
@@ -160,41 +158,33 @@ pushed_init before old taken new d x takes push stands =
     (counted d.init x old.left taken.left takes.left s.came)
     (ap (geometry_onto d) (onto_push init_key page_line d.init x []))
 
-pub pushed_guest : (before : List ℕ) (old taken new : Text) (d : SessionDraft) (x : GuestRec) → Takes old taken section.Guest → IsPushed taken new (guest_line x) → Stands before old d → Stands before new (and_guest d x)
-pushed_guest before old taken new d x takes push stands =
+pub pushed_record : (before : List ℕ) (old taken new : Text) (d : SessionDraft) (rec : Wide) → Takes old taken (list_of (log_of rec)) → IsPushed taken new (wide_line rec) → Stands before old d → Stands before new (and_record d rec)
+pushed_record before old taken new d (wide.Guest r) takes push stands =
     let s = stands_at before old section.Guest d takes.was stands in
-    pushed before old taken new d (and_guest d x) section.Guest (guest_line x) s takes push (recounted old d (and_guest d x) refl refl refl refl refl refl refl) s.lives
-    (counted d.guest x old.left taken.left takes.left s.came)
-    (ap (init_onto d) (onto_push guest_key guest_line d.guest x []))
-
-pub pushed_source : (before : List ℕ) (old taken new : Text) (d : SessionDraft) (x : SourceRec) → Takes old taken section.Source → IsPushed taken new (source_line x) → Stands before old d → Stands before new (and_source d x)
-pushed_source before old taken new d x takes push stands =
+    pushed before old taken new d (and_record d (wide.Guest r)) section.Guest (guest_line (guest_of r)) s takes push (recounted old d (and_record d (wide.Guest r)) refl refl refl refl refl refl refl) s.lives
+    (counted d.guest (guest_of r) old.left taken.left takes.left s.came)
+    (ap (init_onto d) (onto_push guest_key guest_line d.guest (guest_of r) []))
+pushed_record before old taken new d (wide.Source r) takes push stands =
     let s = stands_at before old section.Source d takes.was stands in
-    pushed before old taken new d (and_source d x) section.Source (source_line x) s takes push (recounted old d (and_source d x) refl refl refl refl refl refl refl) s.lives
-    (counted d.source x old.left taken.left takes.left s.came)
-    (ap (guest_onto d) (onto_push source_key source_line d.source x []))
-
-pub pushed_link : (before : List ℕ) (old taken new : Text) (d : SessionDraft) (x : LinkRec) → Takes old taken section.Link → IsPushed taken new (link_line x) → Stands before old d → Stands before new (and_link d x)
-pushed_link before old taken new d x takes push stands =
+    pushed before old taken new d (and_record d (wide.Source r)) section.Source (source_line (source_of r)) s takes push (recounted old d (and_record d (wide.Source r)) refl refl refl refl refl refl refl) s.lives
+    (counted d.source (source_of r) old.left taken.left takes.left s.came)
+    (ap (guest_onto d) (onto_push source_key source_line d.source (source_of r) []))
+pushed_record before old taken new d (wide.Link r) takes push stands =
     let s = stands_at before old section.Link d takes.was stands in
-    pushed before old taken new d (and_link d x) section.Link (link_line x) s takes push (recounted old d (and_link d x) refl refl refl refl refl refl refl) s.lives
-    (counted d.link x old.left taken.left takes.left s.came)
-    (ap (source_onto d) (onto_push link_key link_line d.link x []))
-
-pub pushed_lane : (before : List ℕ) (old taken new : Text) (d : SessionDraft) (x : LaneRec) → Takes old taken section.Lane → IsPushed taken new (lane_line x) → Stands before old d → Stands before new (and_lane d x)
-pushed_lane before old taken new d x takes push stands =
+    pushed before old taken new d (and_record d (wide.Link r)) section.Link (link_line (link_of r)) s takes push (recounted old d (and_record d (wide.Link r)) refl refl refl refl refl refl refl) s.lives
+    (counted d.link (link_of r) old.left taken.left takes.left s.came)
+    (ap (source_onto d) (onto_push link_key link_line d.link (link_of r) []))
+pushed_record before old taken new d (wide.Lane r) takes push stands =
     let s = stands_at before old section.Lane d takes.was stands in
     let version = s.lives.4 in
-    pushed before old taken new d (and_lane d x) section.Lane (lane_line x) s takes push (recounted old d (and_lane d x) refl refl refl refl refl refl refl) s.lives
-    (counted d.lane x old.left taken.left takes.left s.came)
-    (ap (link_onto d) (lane_is d.version (with_item d.lane x) [] version ∙ (onto_push lane_key lane_line d.lane x [] ∙ sym (lane_is d.version d.lane (lane_line x ∷ []) version))))
-
-pub pushed_pager : (before : List ℕ) (old taken new : Text) (d : SessionDraft) (x : PagerRec) → Takes old taken section.Pager → IsPushed taken new (pager_line x) → Stands before old d → Stands before new (and_pager d x)
-pushed_pager before old taken new d x takes push stands =
+    pushed before old taken new d (and_record d (wide.Lane r)) section.Lane (lane_line (lane_of r)) s takes push (recounted old d (and_record d (wide.Lane r)) refl refl refl refl refl refl refl) s.lives
+    (counted d.lane (lane_of r) old.left taken.left takes.left s.came)
+    (ap (link_onto d) (lane_is d.version (with_item d.lane (lane_of r)) [] version ∙ (onto_push lane_key lane_line d.lane (lane_of r) [] ∙ sym (lane_is d.version d.lane (lane_line (lane_of r) ∷ []) version))))
+pushed_record before old taken new d (wide.Pager r) takes push stands =
     let s = stands_at before old section.Pager d takes.was stands in
-    pushed before old taken new d (and_pager d x) section.Pager (pager_line x) s takes push (recounted old d (and_pager d x) refl refl refl refl refl refl refl) s.lives
-    (counted d.pager x old.left taken.left takes.left s.came)
-    (ap (lane_onto d) (onto_push pager_key pager_line d.pager x []))
+    pushed before old taken new d (and_record d (wide.Pager r)) section.Pager (pager_line (pager_of r)) s takes push (recounted old d (and_record d (wide.Pager r)) refl refl refl refl refl refl refl) s.lives
+    (counted d.pager (pager_of r) old.left taken.left takes.left s.came)
+    (ap (lane_onto d) (onto_push pager_key pager_line d.pager (pager_of r) []))
 
 -- ---- the end
 

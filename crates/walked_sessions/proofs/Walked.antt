@@ -15,8 +15,7 @@ use Rattle.recorder_files.specs.declared.noting.Delivered.{Delivered}
 use Rattle.recorder_files.specs.declared.raw.RawSource.{RawSource}
 use Rattle.recorder_files.specs.declared.raw.RawPager.{RawPager}
 use Rattle.recorder_files.specs.Told.{Follow, lane_messages, lane_packet, link_messages, link_packet, numbered_pager, numbered_source, request, told_from}
-use Rattle.walked_sessions.specs.declared.takers.LinkTaker.{LinkTaker}
-use Rattle.walked_sessions.specs.declared.takers.LaneTaker.{LaneTaker}
+use Rattle.walked_sessions.specs.declared.takers.CarrierTaker.{CarrierTaker}
 use Rattle.walked_sessions.specs.declared.takers.SourceTaker.{SourceTaker}
 use Rattle.walked_sessions.specs.declared.takers.PagerTaker.{PagerTaker}
 use Rattle.walked_sessions.specs.declared.cursors.Cursor.{Cursor}
@@ -58,7 +57,7 @@ walks_source Met machine bytes messages first now from onto records is_whole ove
 
 -- ---- the link and the lane
 
-pub walks_link_own : {V : Type 0} (Met : V → Recorded → Type 0) (machine : WideMachine) (bytes : Bytes) (messages : Delivered) (first now : LinkTaker) (from onto : V) (records : List WideLink) (is_whole : Bool) → (first.is_told ≡ false → messages.link_messages.items ≡ []) → (tell : TellLink machine bytes records) → IsTrue is_whole ↔ IsWhole tell → MeetsLink Met first from now onto records → now.is_met ≡ true → WalksLink Met machine bytes messages from onto is_whole
+pub walks_link_own : {V : Type 0} (Met : V → Recorded → Type 0) (machine : WideMachine) (bytes : Bytes) (messages : Delivered) (first now : CarrierTaker) (from onto : V) (records : List WideLink) (is_whole : Bool) → (first.is_told ≡ false → messages.link_messages.items ≡ []) → (tell : TellLink machine bytes records) → IsTrue is_whole ↔ IsWhole tell → MeetsLink Met first from now onto records → now.is_met ≡ true → WalksLink Met machine bytes messages from onto is_whole
 walks_link_own Met machine bytes messages first now from onto records is_whole untold tell whole meets is_met = record {
   records = records;
   tell = tell;
@@ -69,7 +68,7 @@ walks_link_own Met machine bytes messages first now from onto records is_whole u
       subst (λ ls. Met onto (with_link_log d ls)) (sym log) (meets.met d before none start);
 }
 
-pub walks_link_delivered : {V : Type 0} (Met : V → Recorded → Type 0) (machine : WideMachine) (bytes : Bytes) (messages : Delivered) (first now : LinkTaker) (from mid onto : V) (records : List WideLink) (is_whole : Bool) → (tell : TellLink machine bytes records) → IsTrue is_whole ↔ IsWhole tell → MeetsLink Met first from now mid records → now.is_met ≡ false → ((d : Recorded) → BeforeLane d → d.link ≡ [] → Met mid d → Met onto (with_link_log d (map link_delivery messages.link.log.items))) → WalksLink Met machine bytes messages from onto is_whole
+pub walks_link_delivered : {V : Type 0} (Met : V → Recorded → Type 0) (machine : WideMachine) (bytes : Bytes) (messages : Delivered) (first now : CarrierTaker) (from mid onto : V) (records : List WideLink) (is_whole : Bool) → (tell : TellLink machine bytes records) → IsTrue is_whole ↔ IsWhole tell → MeetsLink Met first from now mid records → now.is_met ≡ false → ((d : Recorded) → BeforeLane d → d.link ≡ [] → Met mid d → Met onto (with_link_log d (map link_delivery messages.link.log.items))) → WalksLink Met machine bytes messages from onto is_whole
 walks_link_delivered Met machine bytes messages first now from mid onto records is_whole tell whole meets unmet next = record {
   records = records;
   tell = tell;
@@ -80,7 +79,7 @@ walks_link_delivered Met machine bytes messages first now from mid onto records 
       subst (λ ls. Met onto (with_link_log d ls)) (sym log) (next (with_links d records) before (ap (λ (rs : List WideLink). map link_of rs) (meets.none unmet)) (meets.met d before none start));
 }
 
-pub walks_lane_own : {V : Type 0} (Met : V → Recorded → Type 0) (machine : WideMachine) (bytes : Bytes) (messages : Delivered) (first now : LaneTaker) (from onto : V) (records : List WideLane) (is_whole : Bool) → (first.is_told ≡ false → messages.lane_messages.items ≡ []) → (tell : TellLane machine bytes records) → IsTrue is_whole ↔ IsWhole tell → MeetsLane Met first from now onto records → now.is_met ≡ true → WalksLane Met machine bytes messages from onto is_whole
+pub walks_lane_own : {V : Type 0} (Met : V → Recorded → Type 0) (machine : WideMachine) (bytes : Bytes) (messages : Delivered) (first now : CarrierTaker) (from onto : V) (records : List WideLane) (is_whole : Bool) → (first.is_told ≡ false → messages.lane_messages.items ≡ []) → (tell : TellLane machine bytes records) → IsTrue is_whole ↔ IsWhole tell → MeetsLane Met first from now onto records → now.is_met ≡ true → WalksLane Met machine bytes messages from onto is_whole
 walks_lane_own Met machine bytes messages first now from onto records is_whole untold tell whole meets is_met = record {
   records = records;
   tell = tell;
@@ -91,7 +90,7 @@ walks_lane_own Met machine bytes messages first now from onto records is_whole u
       subst (λ ls. Met onto (with_lane_log d ls)) (sym log) (meets.met d before none start);
 }
 
-pub walks_lane_delivered : {V : Type 0} (Met : V → Recorded → Type 0) (machine : WideMachine) (bytes : Bytes) (messages : Delivered) (first now : LaneTaker) (from mid onto : V) (records : List WideLane) (is_whole : Bool) → (tell : TellLane machine bytes records) → IsTrue is_whole ↔ IsWhole tell → MeetsLane Met first from now mid records → now.is_met ≡ false → ((d : Recorded) → BeforePager d → d.lane ≡ [] → Met mid d → Met onto (with_lane_log d (map lane_delivery messages.lane.log.items))) → WalksLane Met machine bytes messages from onto is_whole
+pub walks_lane_delivered : {V : Type 0} (Met : V → Recorded → Type 0) (machine : WideMachine) (bytes : Bytes) (messages : Delivered) (first now : CarrierTaker) (from mid onto : V) (records : List WideLane) (is_whole : Bool) → (tell : TellLane machine bytes records) → IsTrue is_whole ↔ IsWhole tell → MeetsLane Met first from now mid records → now.is_met ≡ false → ((d : Recorded) → BeforePager d → d.lane ≡ [] → Met mid d → Met onto (with_lane_log d (map lane_delivery messages.lane.log.items))) → WalksLane Met machine bytes messages from onto is_whole
 walks_lane_delivered Met machine bytes messages first now from mid onto records is_whole tell whole meets unmet next = record {
   records = records;
   tell = tell;

@@ -12,9 +12,7 @@ ghost use Rattle.walked_sessions.specs.inner.Kept.{IsLargest};
 use crate::kept::Kept;
 use crate::room::Room;
 use migration_types::{Geometry, Session, Size, Version};
-use recordings::{
-    Visitor, WideGuest, WideInit, WideLane, WideLink, WideMachine, WidePager, WideSource,
-};
+use recordings::{Visitor, Wide, WideInit, WideMachine};
 use std::alloc::{AllocError, Global};
 
 /// A visitor that holds the recording that it meets, as long as a session has room for it: one of some version and size,
@@ -142,51 +140,12 @@ impl Visitor for HeldRecording {
         self.hold_init(page)
     }
 
-    fn guest(&mut self, _number: u64, rec: WideGuest) -> Result<(), AllocError> {
+    #[inline(always)]
+    fn record(&mut self, _number: u64, rec: Wide) -> Result<(), AllocError> {
         let Some(kept) = &mut self.kept else {
             return Ok(());
         };
-        if !kept.guest.take(kept.machine, rec)? {
-            self.kept = None;
-        }
-        Ok(())
-    }
-
-    fn source(&mut self, _number: u64, rec: WideSource) -> Result<(), AllocError> {
-        let Some(kept) = &mut self.kept else {
-            return Ok(());
-        };
-        if !kept.source.take(kept.machine, rec)? {
-            self.kept = None;
-        }
-        Ok(())
-    }
-
-    fn link(&mut self, _number: u64, rec: WideLink) -> Result<(), AllocError> {
-        let Some(kept) = &mut self.kept else {
-            return Ok(());
-        };
-        if !kept.link.take(kept.machine, rec)? {
-            self.kept = None;
-        }
-        Ok(())
-    }
-
-    fn lane(&mut self, _number: u64, rec: WideLane) -> Result<(), AllocError> {
-        let Some(kept) = &mut self.kept else {
-            return Ok(());
-        };
-        if !kept.lane.take(kept.machine, rec)? {
-            self.kept = None;
-        }
-        Ok(())
-    }
-
-    fn pager(&mut self, _number: u64, rec: WidePager) -> Result<(), AllocError> {
-        let Some(kept) = &mut self.kept else {
-            return Ok(());
-        };
-        if !kept.pager.take(kept.machine, rec)? {
+        if !kept.take(rec)? {
             self.kept = None;
         }
         Ok(())

@@ -1,16 +1,17 @@
 //! What is kept of a recording.
 
-ghost use Rattle.std.specs.Prelude.{◌≡◌, ◌↔◌, IfOk, IsTrue, MatchOption, OnOk};
+ghost use Rattle.std.specs.Prelude.{◌≡◌, ◌↔◌, IfOk, IsTrue, MatchBool, MatchOption, OnOk};
 ghost use Rattle.migration_types.specs.Extents.{Extent};
 ghost use Rattle.migration_types.specs.Sessions.{IsSession, Recorded};
 ghost use Rattle.migration_types.specs.declared.size.Size.TheVariants.{Large};
 ghost use Rattle.migration_types.specs.declared.version.Version.{Version as Of};
-ghost use Rattle.recordings.specs.Seen.{nothing_of};
+ghost use Rattle.recordings.specs.Seen.{nothing_of, with_record};
 ghost use Rattle.walked_sessions.specs.Made.{sized};
 ghost use Rattle.walked_sessions.specs.Fitting.{Fits};
 ghost use Rattle.walked_sessions.specs.inner.Fitting.{in_form};
 ghost use Rattle.walked_sessions.specs.Kept.{IsKept};
 ghost use Rattle.walked_sessions.specs.inner.Kept.{IsWithin};
+ghost use Rattle.walked_sessions.specs.Needs.{IsNever};
 
 use crate::init::HeldInit;
 use crate::logs::HeldLog;
@@ -18,6 +19,7 @@ use crate::room::Room;
 use migration_types::{
     Geometry, GuestRec, LaneRec, LinkRec, Logs, PagerRec, Session, Size, SourceRec, Version,
 };
+use recordings::Wide;
 use std::alloc::{AllocError, Global};
 
 /// A recording that a session has room for: its machine, as one of the large size, its initial pages and its logs.
@@ -54,6 +56,21 @@ impl Kept {
     {
         self.init.make_room(pages)?;
         Ok(())
+    }
+
+    /// Takes the next record, and returns whether a session may have it behind those before.
+    #[inline(always)]
+    pub(crate) fn take(&mut self, rec: Wide) -> Result<bool, AllocError>
+        ensures { IfOk result (λ taken. (d : Recorded) → IsKept self.old d → MatchBool taken (IsKept self.new (with_record d rec)) (IsNever (Fits (with_record d rec)))) }
+    {
+        let machine = self.machine;
+        match rec {
+            Wide::Guest(rec) => self.guest.take(machine, rec),
+            Wide::Source(rec) => self.source.take(machine, rec),
+            Wide::Link(rec) => self.link.take(machine, rec),
+            Wide::Lane(rec) => self.lane.take(machine, rec),
+            Wide::Pager(rec) => self.pager.take(machine, rec),
+        }
     }
 
     /// Returns whether each log is within the limits of a version and a size.

@@ -7,7 +7,7 @@ ghost use Rattle.walked_sessions.specs.inner.Passing.{IsNotNext, Passes};
 
 use crate::cursors::Cursor;
 use recorder_files::{RawPager, RawSource, RecordTaker, TakeRefusal};
-use recordings::{Visitor, WideGuest, WideLane, WideLink};
+use recordings::{Visitor, Wide, WideGuest, WideLane, WideLink};
 
 /// The guest's records.
 #[derive(Clone, Copy)]
@@ -19,7 +19,7 @@ impl<V: Visitor> RecordTaker<WideGuest, V> for GuestTaker {
     ghost IsUnfit = { λ taker number rec. ⊥ };
 
     fn take(&mut self, onto: &mut V, number: u64, rec: WideGuest) -> Result<(), TakeRefusal> {
-        match onto.guest(number, rec) {
+        match onto.record(number, Wide::Guest(rec)) {
             Ok(()) => Ok(()),
             Err(_) => Err(TakeRefusal::Memory),
         }
@@ -39,21 +39,22 @@ impl<'a, V: Visitor> RecordTaker<RawSource, V> for SourceTaker<'a> {
 
     fn take(&mut self, onto: &mut V, number: u64, rec: RawSource) -> Result<(), TakeRefusal> {
         let up = self.link.pass(rec.request(number))?;
-        match onto.source(number, rec.numbered(up)) {
+        match onto.record(number, Wide::Source(rec.numbered(up))) {
             Ok(()) => Ok(()),
             Err(_) => Err(TakeRefusal::Memory),
         }
     }
 }
 
-/// The records of the link's own files. There may be none if a record of another log takes a message without them.
+/// The records of the own files of the link or of the lane. There may be none if a record of another log takes a message without
+/// them.
 #[derive(Clone, Copy)]
-pub(crate) struct LinkTaker {
+pub(crate) struct CarrierTaker {
     pub(crate) is_told: bool,
     pub(crate) is_met: bool,
 }
 
-impl<V: Visitor> RecordTaker<WideLink, V> for LinkTaker {
+impl<V: Visitor> RecordTaker<WideLink, V> for CarrierTaker {
     ghost Takes = { λ first from now onto records. MeetsLink V.Met first from now onto records };
 
     ghost IsUnfit = { λ taker number rec. taker.is_told ≡ true };
@@ -63,21 +64,14 @@ impl<V: Visitor> RecordTaker<WideLink, V> for LinkTaker {
             return Err(TakeRefusal::Unfit);
         }
         self.is_met = true;
-        match onto.link(number, rec) {
+        match onto.record(number, Wide::Link(rec)) {
             Ok(()) => Ok(()),
             Err(_) => Err(TakeRefusal::Memory),
         }
     }
 }
 
-/// The records of the lane's own files. There may be none if a record of the pager takes a packet without them.
-#[derive(Clone, Copy)]
-pub(crate) struct LaneTaker {
-    pub(crate) is_told: bool,
-    pub(crate) is_met: bool,
-}
-
-impl<V: Visitor> RecordTaker<WideLane, V> for LaneTaker {
+impl<V: Visitor> RecordTaker<WideLane, V> for CarrierTaker {
     ghost Takes = { λ first from now onto records. MeetsLane V.Met first from now onto records };
 
     ghost IsUnfit = { λ taker number rec. taker.is_told ≡ true };
@@ -87,7 +81,7 @@ impl<V: Visitor> RecordTaker<WideLane, V> for LaneTaker {
             return Err(TakeRefusal::Unfit);
         }
         self.is_met = true;
-        match onto.lane(number, rec) {
+        match onto.record(number, Wide::Lane(rec)) {
             Ok(()) => Ok(()),
             Err(_) => Err(TakeRefusal::Memory),
         }
@@ -113,7 +107,7 @@ impl<'a, V: Visitor> RecordTaker<RawPager, V> for PagerTaker<'a> {
         };
         self.count = count;
         let down = pass_either(&mut self.link, &mut self.lane, number, &rec)?;
-        match onto.pager(number, rec.numbered(down)) {
+        match onto.record(number, Wide::Pager(rec.numbered(down))) {
             Ok(()) => Ok(()),
             Err(_) => Err(TakeRefusal::Memory),
         }

@@ -3,13 +3,14 @@
 ghost use Rattle.std.specs.Prelude.{◌≡◌, ℕ, ◌≤◌, [], List, OnOk};
 ghost use Rattle.std.specs.Io.KnownBytes.{Appends};
 ghost use Rattle.text_access.specs.Written.{Gains};
-ghost use Rattle.recordings.specs.Wide.{init_of, guest_of, source_of, link_of, lane_of, pager_of};
+ghost use Rattle.recordings.specs.Wide.{init_of};
 ghost use Rattle.recordings.specs.inner.Held.{SessionDraft};
+ghost use Rattle.walked_sessions.specs.inner.Made.{list_of};
 
 use crate::write_faults::PushFault;
-use migration_types::Version;
+use migration_types::{LogName, Version};
 use recorder_files::Front;
-use recordings::{WideGuest, WideInit, WideLane, WideLink, WideMachine, WidePager, WideSource};
+use recordings::{Wide, WideInit, WideMachine};
 use session_grammar::{
     CELLS_KEY, GUEST_KEY, INIT_KEY, LANE_KEY, LINK_KEY, PAGER_KEY, PAGES_KEY, SOURCE_KEY,
     session_header,
@@ -30,6 +31,20 @@ pub(crate) enum ListKind {
     Pager,
 }
 
+/// Returns the list of a log's records.
+#[inline(always)]
+fn list_of(log: LogName) -> ListKind
+    ensures { result ≡ list_of log }
+{
+    match log {
+        LogName::Guest => ListKind::Guest,
+        LogName::Source => ListKind::Source,
+        LogName::Link => ListKind::Link,
+        LogName::Lane => ListKind::Lane,
+        LogName::Pager => ListKind::Pager,
+    }
+}
+
 /// A text that is being made: its bytes since the last piece, what it announces, and the list whose lines come next.
 #[derive(Drop)]
 pub(crate) struct Text {
@@ -46,7 +61,7 @@ pub(crate) struct Text {
 
 impl Text {
     ghost use Rattle.migration_types.specs.declared.version.Version.TheVariants.{Two};
-    ghost use Rattle.walked_sessions.specs.inner.Made.{Stands, IsSame, IsHead, IsMachineSaid, Begins, Takes, IsEnded, rank, and_init, and_guest, and_source, and_link, and_lane, and_pager};
+    ghost use Rattle.walked_sessions.specs.inner.Made.{Stands, IsSame, IsHead, IsMachineSaid, Begins, Takes, IsEnded, rank, and_init, and_record};
 
     /// Returns a text without lines.
     pub(crate) fn new(alloc: Global, front: Front, init: u64) -> Self
@@ -192,65 +207,29 @@ impl Text {
         Ok(())
     }
 
-    /// Appends the line of a record of the guest.
-    pub(crate) fn push_guest(&mut self, rec: &WideGuest) -> Result<(), PushFault>
-        ensures stands { (before : List ℕ) (d : SessionDraft) → Stands before self.old d → OnOk result (Stands before self.new (and_guest d (guest_of rec.now))) }
+    /// Begins a log, if it has not begun; the lane's only if the version has one.
+    #[inline(always)]
+    fn reach(&mut self, log: LogName) -> Result<(), PushFault>
+        ensures stands { (before : List ℕ) (d : SessionDraft) → Stands before self.old d → OnOk result (Stands before self.new d) }
         ensures same { OnOk result (IsSame self.old self.new) }
     {
-        self.reach_guest()?;
-        self.take(ListKind::Guest)?;
-        let Ok(()) = rec.push(&mut self.bytes) else {
-            return Err(PushFault::Memory);
-        };
-        Ok(())
+        match log {
+            LogName::Guest => self.reach_guest(),
+            LogName::Source => self.reach_source(),
+            LogName::Link => self.reach_link(),
+            LogName::Lane => self.reach_lane(),
+            LogName::Pager => self.reach_pager(),
+        }
     }
 
-    /// Appends the line of a record of the source.
-    pub(crate) fn push_source(&mut self, rec: &WideSource) -> Result<(), PushFault>
-        ensures stands { (before : List ℕ) (d : SessionDraft) → Stands before self.old d → OnOk result (Stands before self.new (and_source d (source_of rec.now))) }
+    /// Appends the line of a record.
+    #[inline(always)]
+    pub(crate) fn push(&mut self, rec: &Wide) -> Result<(), PushFault>
+        ensures stands { (before : List ℕ) (d : SessionDraft) → Stands before self.old d → OnOk result (Stands before self.new (and_record d rec.now)) }
         ensures same { OnOk result (IsSame self.old self.new) }
     {
-        self.reach_source()?;
-        self.take(ListKind::Source)?;
-        let Ok(()) = rec.push(&mut self.bytes) else {
-            return Err(PushFault::Memory);
-        };
-        Ok(())
-    }
-
-    /// Appends the line of a record of the link.
-    pub(crate) fn push_link(&mut self, rec: &WideLink) -> Result<(), PushFault>
-        ensures stands { (before : List ℕ) (d : SessionDraft) → Stands before self.old d → OnOk result (Stands before self.new (and_link d (link_of rec.now))) }
-        ensures same { OnOk result (IsSame self.old self.new) }
-    {
-        self.reach_link()?;
-        self.take(ListKind::Link)?;
-        let Ok(()) = rec.push(&mut self.bytes) else {
-            return Err(PushFault::Memory);
-        };
-        Ok(())
-    }
-
-    /// Appends the line of a record of the lane.
-    pub(crate) fn push_lane(&mut self, rec: &WideLane) -> Result<(), PushFault>
-        ensures stands { (before : List ℕ) (d : SessionDraft) → Stands before self.old d → OnOk result (Stands before self.new (and_lane d (lane_of rec.now))) }
-        ensures same { OnOk result (IsSame self.old self.new) }
-    {
-        self.reach_lane()?;
-        self.take(ListKind::Lane)?;
-        let Ok(()) = rec.push(&mut self.bytes) else {
-            return Err(PushFault::Memory);
-        };
-        Ok(())
-    }
-
-    /// Appends the line of a record of the pager.
-    pub(crate) fn push_pager(&mut self, rec: &WidePager) -> Result<(), PushFault>
-        ensures stands { (before : List ℕ) (d : SessionDraft) → Stands before self.old d → OnOk result (Stands before self.new (and_pager d (pager_of rec.now))) }
-        ensures same { OnOk result (IsSame self.old self.new) }
-    {
-        self.reach_pager()?;
-        self.take(ListKind::Pager)?;
+        self.reach(rec.log())?;
+        self.take(list_of(rec.log()))?;
         let Ok(()) = rec.push(&mut self.bytes) else {
             return Err(PushFault::Memory);
         };

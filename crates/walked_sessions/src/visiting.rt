@@ -11,10 +11,7 @@ ghost use Rattle.walked_sessions.specs.inner.Made.{Holds, IsKept, IsSame, Meets}
 
 use crate::text::Text;
 use crate::write_faults::PushFault;
-use migration_types::Version;
-use recordings::{
-    Visitor, WideGuest, WideInit, WideLane, WideLink, WideMachine, WidePager, WideSource,
-};
+use recordings::{Visitor, Wide, WideInit, WideMachine};
 use std::alloc::AllocError;
 use std::io::Write;
 use std::marker::{Brand, PhantomData};
@@ -183,48 +180,15 @@ impl<'a, W: Write, B: Begun> Visitor for TextWriter<'a, W, B> {
         self.settle(pushed)
     }
 
-    fn guest(&mut self, number: u64, rec: WideGuest) -> Result<(), AllocError> {
-        if self.fault.is_some() || number >= self.text.front.guest {
+    #[inline(always)]
+    fn record(&mut self, number: u64, rec: Wide) -> Result<(), AllocError> {
+        if self.fault.is_some()
+            || number >= self.text.front.of(rec.log())
+            || !rec.log().is_in(self.text.version)
+        {
             return Ok(());
         }
-        let pushed = self.text.push_guest(&rec);
-        self.settle(pushed)
-    }
-
-    fn source(&mut self, number: u64, rec: WideSource) -> Result<(), AllocError> {
-        if self.fault.is_some() || number >= self.text.front.source {
-            return Ok(());
-        }
-        let pushed = self.text.push_source(&rec);
-        self.settle(pushed)
-    }
-
-    fn link(&mut self, number: u64, rec: WideLink) -> Result<(), AllocError> {
-        if self.fault.is_some() || number >= self.text.front.link {
-            return Ok(());
-        }
-        let pushed = self.text.push_link(&rec);
-        self.settle(pushed)
-    }
-
-    fn lane(&mut self, number: u64, rec: WideLane) -> Result<(), AllocError> {
-        if self.fault.is_some() || number >= self.text.front.lane {
-            return Ok(());
-        }
-        match self.text.version {
-            Version::One => Ok(()),
-            Version::Two => {
-                let pushed = self.text.push_lane(&rec);
-                self.settle(pushed)
-            }
-        }
-    }
-
-    fn pager(&mut self, number: u64, rec: WidePager) -> Result<(), AllocError> {
-        if self.fault.is_some() || number >= self.text.front.pager {
-            return Ok(());
-        }
-        let pushed = self.text.push_pager(&rec);
+        let pushed = self.text.push(&rec);
         self.settle(pushed)
     }
 }

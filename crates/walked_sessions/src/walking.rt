@@ -14,10 +14,10 @@ ghost use Rattle.walked_sessions.specs.inner.Walking.{WalksGuest, WalksLane, Wal
 use crate::cursors::Cursor;
 use crate::files::{LogFiles, WalkFault, take_log};
 use crate::noting::Messages;
-use crate::takers::{GuestTaker, LaneTaker, LinkTaker, PagerTaker, SourceTaker};
+use crate::takers::{CarrierTaker, GuestTaker, PagerTaker, SourceTaker};
 use migration_types::LogName;
 use recorder_files::{Delivered, Message, RawPager, RawSource};
-use recordings::{Visitor, WideGuest, WideInit, WideLane, WideLink, WideMachine};
+use recordings::{Visitor, Wide, WideGuest, WideInit, WideLane, WideLink, WideMachine};
 use std::alloc::{AllocError, Global};
 
 /// Meets an initial page.
@@ -153,7 +153,7 @@ fn walk_link_deliveries<V: Visitor>(
     ensures { OnOk result ((d : Recorded) → BeforeLane d → d.link ≡ [] → V.Met visitor.old d → V.Met visitor.new (with_link_log d (map link_delivery deliveries.now))) }
 {
     for i in 0..deliveries.len() {
-        visitor.link(i as u64, link_delivery(deliveries[i]))?;
+        visitor.record(i as u64, Wide::Link(link_delivery(deliveries[i])))?;
     }
     Ok(())
 }
@@ -170,7 +170,7 @@ fn walk_link<F: LogFiles, V: Visitor>(
     ensures walked { IfOk result (λ whole. WalksLink V.Met machine.now (F.bytes_of files.now) messages.now visitor.old visitor.new whole) }
     ensures refused { IfErr result (IsWalkFault machine.now (F.bytes_of files.now) messages.now) }
 {
-    let mut taker = LinkTaker {
+    let mut taker = CarrierTaker {
         is_told: are_some(messages.link_messages.as_slice()),
         is_met: false,
     };
@@ -179,7 +179,7 @@ fn walk_link<F: LogFiles, V: Visitor>(
         messages.link_messages.as_slice(),
         messages.packets,
     );
-    let whole = take_log::<F, WideLink, V, LinkTaker>(
+    let whole = take_log::<F, WideLink, V, CarrierTaker>(
         alloc,
         machine,
         files,
@@ -212,7 +212,7 @@ fn walk_lane_deliveries<V: Visitor>(
     ensures { OnOk result ((d : Recorded) → BeforePager d → d.lane ≡ [] → V.Met visitor.old d → V.Met visitor.new (with_lane_log d (map lane_delivery deliveries.now))) }
 {
     for i in 0..deliveries.len() {
-        visitor.lane(i as u64, lane_delivery(deliveries[i]))?;
+        visitor.record(i as u64, Wide::Lane(lane_delivery(deliveries[i])))?;
     }
     Ok(())
 }
@@ -229,12 +229,12 @@ fn walk_lane<F: LogFiles, V: Visitor>(
     ensures walked { IfOk result (λ whole. WalksLane V.Met machine.now (F.bytes_of files.now) messages.now visitor.old visitor.new whole) }
     ensures refused { IfErr result (IsWalkFault machine.now (F.bytes_of files.now) messages.now) }
 {
-    let mut taker = LaneTaker {
+    let mut taker = CarrierTaker {
         is_told: are_some(messages.lane_messages.as_slice()),
         is_met: false,
     };
     let unfit = own_log(LogName::Lane, messages.lane_messages.as_slice(), 0);
-    let whole = take_log::<F, WideLane, V, LaneTaker>(
+    let whole = take_log::<F, WideLane, V, CarrierTaker>(
         alloc,
         machine,
         files,

@@ -1,15 +1,14 @@
 -- Lists that grow by an item at their end.
-use Rattle.std.proofs.Common.{◌≡◌, ℕ, ◌+◌, Bool, true, false, List, [], ◌∷◌, ◌++◌, length, map, refl, sym, ap, ◌∙◌, arith, append_assoc}
+use Rattle.std.proofs.Common.{◌≡◌, ℕ, ◌+◌, Bool, List, [], ◌∷◌, ◌++◌, length, map, refl, sym, ap, ◌∙◌, arith, append_assoc}
 use Rattle.text_lines.specs.Text.{ended}
 use Rattle.audit_model.specs.Windows.{kept_in}
-use Rattle.windows.specs.inner.Marks.{has_mark}
 use Rattle.std.specs.Global.{Vec}
 use Rattle.migration_types.specs.declared.records.GuestRec.{GuestRec}
 use Rattle.audit_model.specs.Windows.{Numbers}
 use Rattle.windows.specs.declared.marking.Marks.{Marks}
 use Rattle.windows.specs.declared.sections.Section.{Section}
 use Rattle.windows.specs.inner.Guided.{guest_marks, guest_by, far_after, further_by}
-use Rattle.windows.specs.inner.Met.{lines_of, IsSection}
+use Rattle.windows.specs.inner.Met.{IsSection}
 
 pub map_end : {A B : Type 0} (f : A → B) (xs : List A) (x : A) → map f (xs ++ x ∷ []) ≡ map f xs ++ f x ∷ []
 map_end f [] x = refl
@@ -32,28 +31,6 @@ length_end (y ∷ xs) x = let e = length_end xs x in omega (arith, e)
 pub kept_nothing : {A : Type 0} (marks : List Bool) → kept_in {A = A} marks [] ≡ []
 kept_nothing [] = refl
 kept_nothing (m ∷ marks) = refl
-
-kept_more : {A : Type 0} (marks : List Bool) (log : List A) (x : A) → has_mark marks (length log) ≡ true → kept_in marks (log ++ x ∷ []) ≡ kept_in marks log ++ x ∷ []
-kept_more [] [] x h = absurd (cc)
-kept_more [] (y ∷ log) x h = absurd (cc)
-kept_more (true ∷ marks) [] x h = ap (λ xs. x ∷ xs) (kept_nothing marks)
-kept_more (false ∷ marks) [] x h = absurd (cc)
-kept_more (true ∷ marks) (y ∷ log) x h = ap (λ xs. y ∷ xs) (kept_more marks log x h)
-kept_more (false ∷ marks) (y ∷ log) x h = kept_more marks log x h
-
-kept_same : {A : Type 0} (marks : List Bool) (log : List A) (x : A) → has_mark marks (length log) ≡ false → kept_in marks (log ++ x ∷ []) ≡ kept_in marks log
-kept_same [] [] x h = refl
-kept_same [] (y ∷ log) x h = refl
-kept_same (true ∷ marks) [] x h = absurd (cc)
-kept_same (false ∷ marks) [] x h = kept_nothing marks
-kept_same (true ∷ marks) (y ∷ log) x h = ap (λ xs. y ∷ xs) (kept_same marks log x h)
-kept_same (false ∷ marks) (y ∷ log) x h = kept_same marks log x h
-
-pub lines_more : {A : Type 0} (line : A → List ℕ) (new : A → A) (marks : List Bool) (log : List A) (x : A) → has_mark marks (length log) ≡ true → lines_of line new marks (log ++ x ∷ []) ≡ lines_of line new marks log ++ line (new x) ∷ []
-lines_more line new marks log x h = ap (λ xs. map line (map new xs)) (kept_more marks log x h) ∙ ap (map line) (map_end new (kept_in marks log) x) ∙ map_end line (map new (kept_in marks log)) (new x)
-
-pub lines_same : {A : Type 0} (line : A → List ℕ) (new : A → A) (marks : List Bool) (log : List A) (x : A) → has_mark marks (length log) ≡ false → lines_of line new marks (log ++ x ∷ []) ≡ lines_of line new marks log
-lines_same line new marks log x h = ap (λ xs. map line (map new xs)) (kept_same marks log x h)
 
 pub section_more : (section : Section) (lines : List (List ℕ)) (line : List ℕ) (count : ℕ) (text : Vec ℕ) → IsSection section lines → count ≡ section.count + 1 → text.items ≡ section.lines.items ++ (line ++ 10 ∷ []) → IsSection (record { count = count; lines = text }) (lines ++ line ∷ [])
 section_more section lines line count text is one more = record {

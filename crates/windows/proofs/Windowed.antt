@@ -12,10 +12,12 @@ use Rattle.migration_types.specs.declared.records.LaneRec.{LaneRec}
 use Rattle.migration_types.specs.declared.records.LaneRec.TheVariants.{Down as LaneDown}
 use Rattle.migration_types.specs.declared.records.PagerRec.{PagerRec}
 use Rattle.migration_types.specs.declared.records.PagerRec.TheVariants.{Got, Pull, Ready, Fault, Join, Want, Place, Zero, Skip, All}
+use Rattle.migration_types.specs.Extents.{Extent}
 use Rattle.migration_types.specs.Sessions.{Recorded}
 use Rattle.text_lines.specs.Text.{ended}
 use Rattle.session_grammar.specs.Grammar.{session_lines}
 use Rattle.session_grammar.specs.Records.{guest_line, source_line, link_line, lane_line, pager_line}
+use Rattle.recordings.specs.Wide.{extent_of}
 use Rattle.audit_model.specs.Windows.{keeps_init, Numbers, new_page, kept_in, rank, marks, window, new_guest, new_source, new_link, new_lane, new_pager}
 use Rattle.windows.specs.declared.marking.Guide.{Guide}
 use Rattle.windows.specs.declared.marking.Marks.{Marks}
@@ -143,7 +145,7 @@ outside_by Is marking w s is met beyond = record { s = s; is = is; outside = sub
 
 -- where a pass found the marks again that it went by, what it wrote is the window
 pub window_of : {W : Type 0} (writing : Writing W) (w : Window) (s : Recorded) (out : WindowText) → Meets writing s → writing.guide.window ≡ w → AreSame writing.guide.known writing.found → IsOf w writing.found.machine.pages →
-    ((s : Recorded) → AreSections writing.sections s → writing.found.machine.version ≡ s.version → writing.found.machine.size ≡ s.geometry.size → w.count ≡ s.geometry.pages → writing.found.machine.cells ≡ s.geometry.cells → out.text.items ≡ ended (session_lines s)) →
+    ((s : Recorded) → AreSections writing.sections s → writing.found.machine.version ≡ s.version → extent_of (record writing.found.machine { pages = w.count }) ≡ s.geometry → out.text.items ≡ ended (session_lines s)) →
     ((number : Numbers) (s : Recorded) → writing.found.machine.version ≡ s.version → writing.found.init ≡ map (keeps_init number) s.init → AreRight number writing.guide.known s → out.lines.items ≡ origins number s) →
     IsWindowOf w s out
 window_of writing w s out met by same of text lines =
@@ -151,6 +153,6 @@ window_of writing w s out met by same of text lines =
     let written : Written (numbers_of w) writing.guide.known writing.sections s = subst (λ v. Written (numbers_of v) writing.guide.known writing.sections s) by met.written in
     record {
       within = subst (IsOf w) (ap (λ x. x.pages) f.extent) of;
-      text_is = text (window (numbers_of w) w.count s) (sections (numbers_of w) s writing.guide.known writing.found f same w.count writing.sections written) f.version (ap (λ x. x.size) f.extent) refl (ap (λ x. x.cells) f.extent);
+      text_is = text (window (numbers_of w) w.count s) (sections (numbers_of w) s writing.guide.known writing.found f same w.count writing.sections written) f.version (ap (λ (e : Extent). record e { pages = w.count }) f.extent);
       lines_are = lines (numbers_of w) s f.version f.init (right (numbers_of w) s writing.guide.known writing.found f same);
     }

@@ -1,11 +1,10 @@
 -- Tables as they are written and read.
-use Rattle.std.proofs.Common.{◌≡◌, ℕ, ◌+◌, ◌<◌, ◌^◌, List, [], ◌∷◌, ◌++◌, length, map, take, get_or, sym, ap, ◌∙◌, refl, append_assoc}
+use Rattle.std.proofs.Common.{◌≡◌, ℕ, ◌+◌, ◌<◌, ◌^◌, List, [], ◌∷◌, ◌++◌, length, map, take, get_or, sym, ap, ◌∙◌, append_assoc}
 use Rattle.std.specs.List.{AllByRecursion}
 use Rattle.std.specs.Fmt.{decimal}
-use Rattle.std.proofs.lemmas.List.{append-nil}
 use Rattle.text_lines.specs.Text.{Begins, ended}
 use Rattle.text_lines.proofs.Sections.{ended_next}
-use Rattle.windows.specs.Tables.{SpellsTable, table_text}
+use Rattle.windows.specs.Tables.{SpellsTable}
 
 -- behind what was there before stand the first lines of a table
 abbrev pub Written : List ℕ → List ℕ → ℕ → List ℕ → Type 0

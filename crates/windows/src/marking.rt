@@ -1,19 +1,18 @@
 //! The marks of a recording's logs.
 
-ghost use Rattle.std.specs.Prelude.{◌≡◌, true, false, [], ◌∷◌, ◌++◌, List, None, OnOk};
+ghost use Rattle.std.specs.Prelude.{◌≡◌, ℕ, true, false, [], ◌∷◌, ◌++◌, List, None, OnOk};
 ghost use Rattle.migration_types.specs.declared.records.GuestRec.{GuestRec};
 ghost use Rattle.migration_types.specs.declared.records.SourceRec.{SourceRec};
 ghost use Rattle.migration_types.specs.declared.records.PagerRec.{PagerRec};
 ghost use Rattle.migration_types.specs.Sessions.{Recorded};
-ghost use Rattle.recordings.specs.Seen.{with_init, with_guest, with_source, with_link, with_lane, with_pager, BeforeLink, BeforeLane, BeforePager};
-ghost use Rattle.recordings.specs.Wide.{init_of, guest_of, source_of, link_of, lane_of, pager_of};
-ghost use Rattle.audit_model.specs.Windows.{Numbers};
+ghost use Rattle.recordings.specs.Seen.{with_init, with_record, IsNext};
+ghost use Rattle.recordings.specs.Wide.{init_of, guest_of, source_of, pager_of};
 
 use crate::keeping::{keeps_lane, keeps_taking};
 use crate::pages::Window;
 use crate::places::Places;
 use migration_types::{Size, Version};
-use recordings::{WideGuest, WideInit, WideLane, WideLink, WideMachine, WidePager, WideSource};
+use recordings::{Wide, WideGuest, WideInit, WideMachine, WidePager, WideSource};
 use std::alloc::{AllocError, Global};
 
 /// Marks for the guest's records: those that miss a page of the window, those that are kept, and the newest placement
@@ -142,7 +141,7 @@ impl PagerMarks {
         lane: &Places,
         rec: &WidePager,
     ) -> Result<(), AllocError>
-        ensures { (log : List PagerRec) → PagerFound (numbers_of guide.now.window) guide.now.known link.now lane.now self.old log → OnOk result (PagerFound (numbers_of guide.now.window) guide.now.known link.now lane.now self.new (log ++ pager_of rec.now ∷ [])) }
+        ensures { let Knows = PagerFound (numbers_of guide.now.window) guide.now.known link.now lane.now in (log : List PagerRec) → Knows self.old log → OnOk result (Knows self.new (log ++ pager_of rec.now ∷ [])) }
     {
         let asks = guide.window.keeps_asking(rec);
         let places = guide.window.keeps_placement(rec);
@@ -189,46 +188,24 @@ impl Marks {
         Ok(())
     }
 
-    /// Takes the guest's next record.
-    pub(crate) fn note_guest(&mut self, guide: &Guide, rec: &WideGuest) -> Result<(), AllocError>
-        ensures { (d : Recorded) → Found (numbers_of guide.now.window) guide.now.known self.old d → OnOk result (Found (numbers_of guide.now.window) guide.now.known self.new (with_guest d (guest_of rec.now))) }
+    /// Takes the next record.
+    #[inline(always)]
+    pub(crate) fn note(&mut self, guide: &Guide, rec: &Wide) -> Result<(), AllocError>
+        ensures { let Knows = Found (numbers_of guide.now.window) guide.now.known in (d : Recorded) (number : ℕ) → IsNext d number rec.now → Knows self.old d → OnOk result (Knows self.new (with_record d rec.now)) }
     {
-        self.guest.note(guide, rec)?;
-        Ok(())
-    }
-
-    /// Takes the source's next record.
-    pub(crate) fn note_source(&mut self, guide: &Guide, rec: &WideSource) -> Result<(), AllocError>
-        ensures { (d : Recorded) → BeforeLink d → Found (numbers_of guide.now.window) guide.now.known self.old d → OnOk result (Found (numbers_of guide.now.window) guide.now.known self.new (with_source d (source_of rec.now))) }
-    {
-        self.source.note(guide, rec)?;
-        Ok(())
-    }
-
-    /// Takes the link's next record.
-    pub(crate) fn note_link(&mut self, guide: &Guide, rec: &WideLink) -> Result<(), AllocError>
-        ensures { (d : Recorded) → BeforeLane d → Found (numbers_of guide.now.window) guide.now.known self.old d → OnOk result (Found (numbers_of guide.now.window) guide.now.known self.new (with_link d (link_of rec.now))) }
-    {
-        let keep = guide.keeps_link(&self.source.repeats, rec);
-        self.link.note(keep)?;
-        Ok(())
-    }
-
-    /// Takes the lane's next record.
-    pub(crate) fn note_lane(&mut self, rec: &WideLane) -> Result<(), AllocError>
-        ensures { (number : Numbers) (known : Marks) (d : Recorded) → BeforePager d → Found number known self.old d → OnOk result (Found number known self.new (with_lane d (lane_of rec.now))) }
-    {
-        let keep = keeps_lane(&self.source.repeats, rec);
-        self.lane.note(keep)?;
-        Ok(())
-    }
-
-    /// Takes the pager's next record.
-    pub(crate) fn note_pager(&mut self, guide: &Guide, rec: &WidePager) -> Result<(), AllocError>
-        ensures { (d : Recorded) → Found (numbers_of guide.now.window) guide.now.known self.old d → OnOk result (Found (numbers_of guide.now.window) guide.now.known self.new (with_pager d (pager_of rec.now))) }
-    {
-        self.pager.note(guide, &self.link, &self.lane, rec)?;
-        Ok(())
+        match rec {
+            Wide::Guest(rec) => self.guest.note(guide, rec),
+            Wide::Source(rec) => self.source.note(guide, rec),
+            Wide::Link(rec) => {
+                let keep = guide.keeps_link(&self.source.repeats, rec);
+                self.link.note(keep)
+            }
+            Wide::Lane(rec) => {
+                let keep = keeps_lane(&self.source.repeats, rec);
+                self.lane.note(keep)
+            }
+            Wide::Pager(rec) => self.pager.note(guide, &self.link, &self.lane, rec),
+        }
     }
 
     /// Returns whether the marks are the same.

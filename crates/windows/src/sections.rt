@@ -2,10 +2,9 @@
 
 ghost use Rattle.std.specs.Prelude.{◌≡◌, ℕ, ◌+◌, [], ◌∷◌, ◌++◌, List, IfOk, OnOk};
 ghost use Rattle.session_grammar.specs.Grammar.{page_line};
-ghost use Rattle.session_grammar.specs.Records.{guest_line, source_line, link_line, lane_line, pager_line};
-ghost use Rattle.recordings.specs.Wide.{init_of, guest_of, source_of, link_of, lane_of, pager_of};
+ghost use Rattle.recordings.specs.Wide.{init_of, wide_line};
 
-use recordings::{WideGuest, WideInit, WideLane, WideLink, WidePager, WideSource};
+use recordings::{Wide, WideInit};
 use std::alloc::{AllocError, Global};
 
 /// Lines, each ended by LF, and how many there are.
@@ -54,45 +53,9 @@ impl Section {
         Ok(())
     }
 
-    /// Appends a record of the guest.
-    pub(crate) fn push_guest(&mut self, rec: &WideGuest) -> Result<(), AllocError>
-        ensures { (lines : List (List ℕ)) → IsSection self.old lines → OnOk result (IsSection self.new (lines ++ guest_line (guest_of rec.now) ∷ [])) }
-    {
-        self.count = self.one_more()?;
-        rec.push(&mut self.lines)?;
-        Ok(())
-    }
-
-    /// Appends a record of the source.
-    pub(crate) fn push_source(&mut self, rec: &WideSource) -> Result<(), AllocError>
-        ensures { (lines : List (List ℕ)) → IsSection self.old lines → OnOk result (IsSection self.new (lines ++ source_line (source_of rec.now) ∷ [])) }
-    {
-        self.count = self.one_more()?;
-        rec.push(&mut self.lines)?;
-        Ok(())
-    }
-
-    /// Appends a record of the link.
-    pub(crate) fn push_link(&mut self, rec: &WideLink) -> Result<(), AllocError>
-        ensures { (lines : List (List ℕ)) → IsSection self.old lines → OnOk result (IsSection self.new (lines ++ link_line (link_of rec.now) ∷ [])) }
-    {
-        self.count = self.one_more()?;
-        rec.push(&mut self.lines)?;
-        Ok(())
-    }
-
-    /// Appends a record of the lane.
-    pub(crate) fn push_lane(&mut self, rec: &WideLane) -> Result<(), AllocError>
-        ensures { (lines : List (List ℕ)) → IsSection self.old lines → OnOk result (IsSection self.new (lines ++ lane_line (lane_of rec.now) ∷ [])) }
-    {
-        self.count = self.one_more()?;
-        rec.push(&mut self.lines)?;
-        Ok(())
-    }
-
-    /// Appends a record of the pager.
-    pub(crate) fn push_pager(&mut self, rec: &WidePager) -> Result<(), AllocError>
-        ensures { (lines : List (List ℕ)) → IsSection self.old lines → OnOk result (IsSection self.new (lines ++ pager_line (pager_of rec.now) ∷ [])) }
+    /// Appends a record.
+    pub(crate) fn push(&mut self, rec: &Wide) -> Result<(), AllocError>
+        ensures { (lines : List (List ℕ)) → IsSection self.old lines → OnOk result (IsSection self.new (lines ++ wide_line rec.now ∷ [])) }
     {
         self.count = self.one_more()?;
         rec.push(&mut self.lines)?;

@@ -5,6 +5,7 @@ ghost use Rattle.std.specs.Fmt.{decimal};
 ghost use Rattle.migration_types.specs.Sessions.{Recorded};
 ghost use Rattle.text_lines.specs.Text.{ended};
 ghost use Rattle.session_grammar.specs.Grammar.{session_lines};
+ghost use Rattle.recordings.specs.Wide.{extent_of};
 ghost use Rattle.windows.specs.inner.Met.{IsSection};
 ghost use Rattle.windows.specs.inner.Parts.{AreSections, lane_lines};
 
@@ -33,7 +34,7 @@ pub(crate) fn session_text(
     machine: &WideMachine,
     sections: &Sections,
 ) -> Result<Vec<u8>, AllocError>
-    ensures { IfOk result (λ out. (s : Recorded) → AreSections sections.now s → machine.now.version ≡ s.version → machine.now.size ≡ s.geometry.size → pages ≡ s.geometry.pages → machine.now.cells ≡ s.geometry.cells → out.items ≡ ended (session_lines s)) }
+    ensures { IfOk result (λ out. (s : Recorded) → AreSections sections.now s → machine.now.version ≡ s.version → extent_of (record machine.now { pages = pages }) ≡ s.geometry → out.items ≡ ended (session_lines s)) }
 {
     let mut out = Vec::new(alloc);
     push_line(&mut out, session_header(machine.version, machine.size))?;

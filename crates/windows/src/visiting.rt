@@ -1,16 +1,11 @@
 //! Visitors of a recording that mark the kept records, and that write them.
 
-ghost use Rattle.std.specs.Prelude.{◌≡◌, length, OnOk};
-ghost use Rattle.migration_types.specs.Sessions.{Recorded};
-ghost use Rattle.recordings.specs.Seen.{with_init, with_guest, with_source, with_link, with_lane, with_pager};
-ghost use Rattle.recordings.specs.Wide.{init_of, guest_of, source_of, link_of, lane_of, pager_of};
+ghost use Rattle.std.specs.Prelude.{◌≡◌};
 
 use crate::marking::{Guide, Marks};
 use crate::pages::Window;
 use crate::sections::Sections;
-use recordings::{
-    Visitor, WideGuest, WideInit, WideLane, WideLink, WideMachine, WidePager, WideSource,
-};
+use recordings::{Visitor, Wide, WideInit, WideMachine};
 use std::alloc::{AllocError, Global};
 use std::marker::{Brand, PhantomData};
 
@@ -76,29 +71,10 @@ impl<W: Way> Visitor for Marking<W> {
         self.found.note_init(&self.guide, &page)
     }
 
-    fn guest(&mut self, number: u64, rec: WideGuest) -> Result<(), AllocError> {
+    #[inline(always)]
+    fn record(&mut self, number: u64, rec: Wide) -> Result<(), AllocError> {
         let _ = number;
-        self.found.note_guest(&self.guide, &rec)
-    }
-
-    fn source(&mut self, number: u64, rec: WideSource) -> Result<(), AllocError> {
-        let _ = number;
-        self.found.note_source(&self.guide, &rec)
-    }
-
-    fn link(&mut self, number: u64, rec: WideLink) -> Result<(), AllocError> {
-        let _ = number;
-        self.found.note_link(&self.guide, &rec)
-    }
-
-    fn lane(&mut self, number: u64, rec: WideLane) -> Result<(), AllocError> {
-        let _ = number;
-        self.found.note_lane(&rec)
-    }
-
-    fn pager(&mut self, number: u64, rec: WidePager) -> Result<(), AllocError> {
-        let _ = number;
-        self.found.note_pager(&self.guide, &rec)
+        self.found.note(&self.guide, &rec)
     }
 }
 
@@ -149,36 +125,10 @@ impl<W: Way> Visitor for Writing<W> {
         Ok(())
     }
 
-    fn guest(&mut self, number: u64, rec: WideGuest) -> Result<(), AllocError> {
-        self.found.note_guest(&self.guide, &rec)?;
-        self.guide
-            .write_guest(&mut self.sections.guest, number, rec)?;
-        Ok(())
-    }
-
-    fn source(&mut self, number: u64, rec: WideSource) -> Result<(), AllocError> {
-        self.found.note_source(&self.guide, &rec)?;
-        self.guide
-            .write_source(&mut self.sections.source, number, rec)?;
-        Ok(())
-    }
-
-    fn link(&mut self, number: u64, rec: WideLink) -> Result<(), AllocError> {
-        self.found.note_link(&self.guide, &rec)?;
-        self.guide.write_link(&mut self.sections.link, number, rec)?;
-        Ok(())
-    }
-
-    fn lane(&mut self, number: u64, rec: WideLane) -> Result<(), AllocError> {
-        self.found.note_lane(&rec)?;
-        self.guide.write_lane(&mut self.sections.lane, number, rec)?;
-        Ok(())
-    }
-
-    fn pager(&mut self, number: u64, rec: WidePager) -> Result<(), AllocError> {
-        self.found.note_pager(&self.guide, &rec)?;
-        self.guide
-            .write_pager(&mut self.sections.pager, number, rec)?;
+    #[inline(always)]
+    fn record(&mut self, number: u64, rec: Wide) -> Result<(), AllocError> {
+        self.found.note(&self.guide, &rec)?;
+        self.guide.write(&mut self.sections, number, rec)?;
         Ok(())
     }
 }

@@ -3,11 +3,8 @@ use Rattle.std.specs.Prelude.{◌≡◌, ℕ, ◌+◌, List, [], ◌∷◌, ◌+
 use Rattle.std.specs.Fmt.{decimal}
 use Rattle.std.specs.Io.KnownBytes.{Appends, Keeps}
 use Rattle.migration_types.specs.declared.pages.InitPage.{InitPage}
-use Rattle.migration_types.specs.declared.records.GuestRec.{GuestRec}
-use Rattle.migration_types.specs.declared.records.SourceRec.{SourceRec}
-use Rattle.migration_types.specs.declared.records.LinkRec.{LinkRec}
 use Rattle.migration_types.specs.declared.records.LaneRec.{LaneRec}
-use Rattle.migration_types.specs.declared.records.PagerRec.{PagerRec}
+use Rattle.migration_types.specs.declared.records.LogName.{LogName}
 use Rattle.migration_types.specs.declared.records.LogName.TheVariants.{Guest, Source, Link, Lane, Pager}
 use Rattle.migration_types.specs.declared.version.Version.{Version}
 use Rattle.migration_types.specs.declared.version.Version.TheVariants.{One, Two}
@@ -20,7 +17,9 @@ use Rattle.session_grammar.specs.declared.stage.Stage.{Stage}
 use Rattle.session_grammar.specs.declared.stage.Stage.TheVariants as stage
 use Rattle.recordings.specs.inner.Held.{SessionDraft, Part, IsWhole, held_onto, NoGuest, NoSource, NoLink, NoLane, NoPager, came_at, announced_at}
 use Rattle.recordings.specs.declared.machine.WideMachine.{WideMachine}
-use Rattle.recordings.specs.Wide.{extent_of}
+use Rattle.recordings.specs.Wide.{extent_of, guest_of, source_of, link_of, lane_of, pager_of}
+use Rattle.recordings.specs.declared.wide.Wide.{Wide}
+use Rattle.recordings.specs.declared.wide.Wide.TheVariants as wide
 use Rattle.recorder_files.specs.declared.fronts.Front.{Front}
 use Rattle.recorder_files.specs.Fronts.{cursors_of}
 use Rattle.walked_sessions.specs.declared.write_faults.PushFault.{PushFault}
@@ -38,6 +37,14 @@ stage_of section.Source = stage.Source
 stage_of section.Link = stage.Link
 stage_of section.Lane = stage.Lane
 stage_of section.Pager = stage.Pager
+
+-- the list of a log's records
+abbrev pub list_of : LogName → ListKind
+list_of Guest = section.Guest
+list_of Source = section.Source
+list_of Link = section.Link
+list_of Lane = section.Lane
+list_of Pager = section.Pager
 
 -- the place of a list among the lists of a text
 abbrev pub rank : ListKind → ℕ
@@ -144,20 +151,12 @@ with_item part x = record { count = part.count; items = part.items ++ x ∷ [] }
 abbrev pub and_init : SessionDraft → InitPage → SessionDraft
 and_init d x = record d { init = with_item d.init x }
 
-abbrev pub and_guest : SessionDraft → GuestRec → SessionDraft
-and_guest d x = record d { guest = with_item d.guest x }
-
-abbrev pub and_source : SessionDraft → SourceRec → SessionDraft
-and_source d x = record d { source = with_item d.source x }
-
-abbrev pub and_link : SessionDraft → LinkRec → SessionDraft
-and_link d x = record d { link = with_item d.link x }
-
-abbrev pub and_lane : SessionDraft → LaneRec → SessionDraft
-and_lane d x = record d { lane = with_item d.lane x }
-
-abbrev pub and_pager : SessionDraft → PagerRec → SessionDraft
-and_pager d x = record d { pager = with_item d.pager x }
+abbrev pub and_record : SessionDraft → Wide → SessionDraft
+and_record d (wide.Guest rec) = record d { guest = with_item d.guest (guest_of rec) }
+and_record d (wide.Source rec) = record d { source = with_item d.source (source_of rec) }
+and_record d (wide.Link rec) = record d { link = with_item d.link (link_of rec) }
+and_record d (wide.Lane rec) = record d { lane = with_item d.lane (lane_of rec) }
+and_record d (wide.Pager rec) = record d { pager = with_item d.pager (pager_of rec) }
 
 -- the whole text follows these bytes
 pub record IsEnded (before : List ℕ) (t : Text) (d : SessionDraft) : Type 0 where

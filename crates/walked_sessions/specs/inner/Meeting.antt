@@ -13,8 +13,7 @@ use Rattle.recorder_files.specs.Deliveries.{AreNumbers}
 use Rattle.recorder_files.specs.declared.raw.RawSource.{RawSource}
 use Rattle.recorder_files.specs.declared.raw.RawPager.{RawPager}
 use Rattle.recorder_files.specs.Told.{lane_packet, link_packet, numbered_pager, numbered_source, request, told_from}
-use Rattle.walked_sessions.specs.declared.takers.LinkTaker.{LinkTaker}
-use Rattle.walked_sessions.specs.declared.takers.LaneTaker.{LaneTaker}
+use Rattle.walked_sessions.specs.declared.takers.CarrierTaker.{CarrierTaker}
 use Rattle.walked_sessions.specs.declared.takers.SourceTaker.{SourceTaker}
 use Rattle.walked_sessions.specs.declared.takers.PagerTaker.{PagerTaker}
 use Rattle.walked_sessions.specs.Walks.{AreNumbered, IsDown, IsUp}
@@ -45,18 +44,18 @@ pub record MeetsSource {V : Type 0} (Met : V → Recorded → Type 0) (first : S
   pub passed : HasPassed first.link now.link (told_from request 0 records)
   pub met : (d : Recorded) → BeforeLink d → d.source ≡ [] → Met from d → (deliveries : List Message) (count : ℕ) → AreNumbers first.link.messages.now count deliveries first.link.numbers.now → (whole : List SourceRec) × AreNumbered numbered_source (IsUp deliveries count) records whole × Met onto (with_sources d whole)
 
--- the records of the link's own files were met, of which there are none if messages were noted
-pub record MeetsLink {V : Type 0} (Met : V → Recorded → Type 0) (first : LinkTaker) (from : V) (now : LinkTaker) (onto : V) (records : List WideLink) : Type 0 where
+-- the records of the own files of the link or of the lane came, of which there are none if messages were noted; and this was met
+pub record MeetsCarrier {X : Type 0} (first now : CarrierTaker) (records : List X) (IsMet : Type 0) : Type 0 where
   pub told : now.is_told ≡ first.is_told
   pub none : now.is_met ≡ false → records ≡ []
   pub own : now.is_met ≡ true → first.is_told ≡ false
-  pub met : (d : Recorded) → BeforeLane d → d.link ≡ [] → Met from d → Met onto (with_links d records)
+  pub met : IsMet
 
-pub record MeetsLane {V : Type 0} (Met : V → Recorded → Type 0) (first : LaneTaker) (from : V) (now : LaneTaker) (onto : V) (records : List WideLane) : Type 0 where
-  pub told : now.is_told ≡ first.is_told
-  pub none : now.is_met ≡ false → records ≡ []
-  pub own : now.is_met ≡ true → first.is_told ≡ false
-  pub met : (d : Recorded) → BeforePager d → d.lane ≡ [] → Met from d → Met onto (with_lanes d records)
+abbrev pub MeetsLink : {V : Type 0} → (V → Recorded → Type 0) → CarrierTaker → V → CarrierTaker → V → List WideLink → Type 0
+MeetsLink Met first from now onto records = MeetsCarrier first now records ((d : Recorded) → BeforeLane d → d.link ≡ [] → Met from d → Met onto (with_links d records))
+
+abbrev pub MeetsLane : {V : Type 0} → (V → Recorded → Type 0) → CarrierTaker → V → CarrierTaker → V → List WideLane → Type 0
+MeetsLane Met first from now onto records = MeetsCarrier first now records ((d : Recorded) → BeforePager d → d.lane ≡ [] → Met from d → Met onto (with_lanes d records))
 
 -- the pager's records were met, with the numbers of their messages
 pub record MeetsPager {V : Type 0} (Met : V → Recorded → Type 0) (first : PagerTaker) (from : V) (now : PagerTaker) (onto : V) (records : List RawPager) : Type 0 where

@@ -1,5 +1,5 @@
 -- The records that a pass over a recording keeps, given what the pass before it found.
-use Rattle.std.specs.Prelude.{ℕ, suc, ◌-◌, Bool, true, false, max, nat_lt, List, [], ◌∷◌}
+use Rattle.std.specs.Prelude.{ℕ, suc, ◌-◌, Bool, true, false, max, nat_lt, List, [], ◌∷◌, if◌then◌else◌}
 use Rattle.migration_types.specs.declared.records.GuestRec.{GuestRec}
 use Rattle.migration_types.specs.declared.records.GuestRec.TheVariants.{Read, Write, Release, Miss, Halt, Resume, See}
 use Rattle.migration_types.specs.declared.records.SourceRec.{SourceRec}
@@ -10,6 +10,10 @@ use Rattle.migration_types.specs.declared.records.LaneRec.{LaneRec}
 use Rattle.migration_types.specs.declared.records.LaneRec.TheVariants.{Down as LaneDown}
 use Rattle.migration_types.specs.declared.records.PagerRec.{PagerRec}
 use Rattle.migration_types.specs.declared.records.PagerRec.TheVariants.{Got, Pull, Ready, Fault, Join, Want, Place, Zero, Skip, All}
+use Rattle.session_grammar.specs.Records.{guest_line, source_line, link_line, lane_line, pager_line}
+use Rattle.recordings.specs.Wide.{guest_of, source_of, link_of, lane_of, pager_of}
+use Rattle.recordings.specs.declared.wide.Wide.{Wide}
+use Rattle.recordings.specs.declared.wide.Wide.TheVariants.{Guest as WideGuest, Source as WideSource, Link as WideLink, Lane as WideLane, Pager as WidePager}
 use Rattle.audit_model.specs.Windows.{Numbers, is_seen, new_page, rank, newest, keeps_sending}
 use Rattle.windows.specs.declared.marking.Marks.{Marks}
 use Rattle.windows.specs.inner.Marks.{has_mark, is_mark}
@@ -121,3 +125,15 @@ new_pager_by number known (Place p got content) = Place (new_page (number p)) (r
 new_pager_by number known (Zero p) = Zero (new_page (number p))
 new_pager_by number known (Skip got) = Skip (rank known.pager.kept got)
 new_pager_by number known All = All
+
+-- the line of a record, with its page and what it names numbered anew
+abbrev pub new_line_by : Numbers → Marks → Wide → List ℕ
+new_line_by number known (WideGuest rec) = guest_line (new_guest_by number known (guest_of rec))
+new_line_by number known (WideSource rec) = source_line (new_source_by number known (source_of rec))
+new_line_by number known (WideLink rec) = link_line (new_link_by known (link_of rec))
+new_line_by number known (WideLane rec) = lane_line (new_lane_by known (lane_of rec))
+new_line_by number known (WidePager rec) = pager_line (new_pager_by number known (pager_of rec))
+
+-- it, if these marks keep the record of this number
+abbrev pub kept_line : Numbers → Marks → List Bool → ℕ → Wide → List (List ℕ)
+kept_line number known marks n rec = if has_mark marks n then new_line_by number known rec ∷ [] else []

@@ -1,5 +1,6 @@
 -- What a pass knows about a recording so far.
 use Rattle.std.specs.Prelude.{◌≡◌, ℕ, Bool, List, [], map, length, None}
+use Rattle.migration_types.specs.declared.pages.InitPage.{InitPage}
 use Rattle.migration_types.specs.declared.records.GuestRec.{GuestRec}
 use Rattle.migration_types.specs.declared.records.SourceRec.{SourceRec}
 use Rattle.migration_types.specs.declared.records.PagerRec.{PagerRec}
@@ -84,9 +85,13 @@ pub record IsSection (section : Section) (lines : List (List ℕ)) : Type 0 wher
 abbrev pub lines_of : {A : Type 0} → (A → List ℕ) → (A → A) → List Bool → List A → List (List ℕ)
 lines_of line new marks log = map line (map new (kept_in marks log))
 
+-- the lines of the window's initial pages, numbered anew
+abbrev pub init_lines : Numbers → List InitPage → List (List ℕ)
+init_lines number init = lines_of page_line (new_init number) (map (keeps_init number) init) init
+
 -- the lines of all kept records, numbered anew, by the known marks
 pub record Written (number : Numbers) (known : Marks) (sections : Sections) (d : Recorded) : Type 0 where
-  pub init : IsSection sections.init (lines_of page_line (new_init number) (map (keeps_init number) d.init) d.init)
+  pub init : IsSection sections.init (init_lines number d.init)
   pub guest : IsSection sections.guest (lines_of guest_line (new_guest_by number known) known.guest.kept d.guest)
   pub source : IsSection sections.source (lines_of source_line (new_source_by number known) known.source.kept d.source)
   pub link : IsSection sections.link (lines_of link_line (new_link_by known) known.link d.link)

@@ -4,7 +4,7 @@ use Rattle.migration_types.specs.declared.records.LogName.TheVariants.{Lane}
 use Rattle.migration_types.specs.Sessions.{Recorded}
 use Rattle.recordings.specs.Seen.{BeforePager}
 use Rattle.recorder_files.specs.declared.delivering.Message.{Message}
-use Rattle.walked_sessions.specs.declared.takers.LaneTaker.{LaneTaker}
+use Rattle.walked_sessions.specs.declared.takers.CarrierTaker.{CarrierTaker}
 use Rattle.walked_sessions.specs.Walks.{lane_delivery}
 use Rattle.walked_sessions.specs.inner.Refusing.{IsTakingOne}
 use Rattle.walked_sessions.specs.inner.Walking.{with_lane_log}
@@ -17,7 +17,7 @@ pub returns-then-taker-clause-walked : goal.returns-then-taker-clause-walked
 returns-then-taker-clause-walked g c =
     let met = g.V.Visitor.Met in
     let messages = c.args.messages.now in
-    let first : LaneTaker = record { is_told = c.are_some.result; is_met = false } in
+    let first : CarrierTaker = record { is_told = c.are_some.result; is_met = false } in
     let t = c.in_ok-whole.ensures.taken in
     let untold : c.are_some.result ≡ false → messages.lane_messages.items ≡ [] = λ e. sym c.as_slice.ensures.value ∙ c.are_some.ensures.0 e in
     walks_lane_own met c.args.machine.now (g.F.LogFiles.bytes_of c.args.files.now) messages first c.take_log.new.taker c.args.visitor.now c.take_log.new.onto t.0 _ untold t.1 t.2 (t.3 first c.args.visitor.now (lane_none met first c.args.visitor.now refl)) c.if-taker.true
@@ -26,7 +26,7 @@ pub returns-clause-walked : goal.returns-clause-walked
 returns-clause-walked g c =
     let met = g.V.Visitor.Met in
     let messages = c.args.messages.now in
-    let first : LaneTaker = record { is_told = c.are_some.result; is_met = false } in
+    let first : CarrierTaker = record { is_told = c.are_some.result; is_met = false } in
     let t = c.in_ok-whole.ensures.taken in
     let next : (d : Recorded) → BeforePager d → d.lane ≡ [] → met c.take_log.new.onto d → met c.walk_lane_deliveries.new.visitor (with_lane_log d (map lane_delivery messages.lane.log.items)) = subst (λ (ms : List Message). (d : Recorded) → BeforePager d → d.lane ≡ [] → met c.take_log.new.onto d → met c.walk_lane_deliveries.new.visitor (with_lane_log d (map lane_delivery ms))) c.as_slice-3.ensures.value c.in_ok-walk_lane_deliveries.ensures in
     walks_lane_delivered met c.args.machine.now (g.F.LogFiles.bytes_of c.args.files.now) messages first c.take_log.new.taker c.args.visitor.now c.take_log.new.onto c.walk_lane_deliveries.new.visitor t.0 _ t.1 t.2 (t.3 first c.args.visitor.now (lane_none met first c.args.visitor.now refl)) c.if-taker.false next
@@ -34,7 +34,7 @@ returns-clause-walked g c =
 pub returns-in_err-whole-clause-refused : goal.returns-in_err-whole-clause-refused
 returns-in_err-whole-clause-refused g c =
     let messages = c.args.messages.now in
-    let first : LaneTaker = record { is_told = c.are_some.result; is_met = false } in
+    let first : CarrierTaker = record { is_told = c.are_some.result; is_met = false } in
     let empty : messages.lane_messages.items ≡ [] → c.are_some.result ≡ false = λ e. c.are_some.ensures.1 (c.as_slice.ensures.value ∙ e) in
     let taking : (messages.lane_messages.items ≡ [] → ⊥) → IsTakingOne Lane messages.lane_messages.items c.own_log-unfit.result = subst (λ (ms : List Message). (ms ≡ [] → ⊥) → IsTakingOne Lane ms c.own_log-unfit.result) c.as_slice-2.ensures.value c.own_log-unfit.ensures in
     let p = err_from_is_err_and c.from_residual.result c.from_residual.ensures.1 in

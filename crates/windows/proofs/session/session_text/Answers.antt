@@ -8,7 +8,7 @@ use Rattle.windows.proofs.Text.{whole}
 use Rattle.windows.proofs.session.session_text.Goals as goal
 
 pub returns : goal.returns
-returns c = λ s sections version size pages cells. whole s
+returns c = λ s sections version extent. whole s
     c.push_line.new.out.items
     c.push_keyed.new.out.items
     c.push_keyed-2.new.out.items
@@ -20,9 +20,9 @@ returns c = λ s sections version size pages cells. whole s
     c.push_section-5.new.out.items
     c.push_line-2.new.out.items
     (record {
-      head_is = c.in_ok-push_line.ensures ∙ ap (λ xs. xs ++ (c.session_header.result.now ++ 10 ∷ [])) c.new-out.ensures.items ∙ ap (λ xs. xs ++ 10 ∷ []) (c.session_header.ensures ∙ (ap (λ v. header v c.args.machine.now.size) version ∙ ap (header s.version) size));
-      pages_is = c.in_ok-push_keyed.ensures ∙ ap (λ n. c.push_line.new.out.items ++ (pages_key ++ (decimal n ++ 10 ∷ []))) pages;
-      cells_is = c.in_ok-push_keyed-2.ensures ∙ ap (λ n. c.push_keyed.new.out.items ++ (cells_key ++ (decimal n ++ 10 ∷ []))) cells;
+      head_is = c.in_ok-push_line.ensures ∙ ap (λ xs. xs ++ (c.session_header.result.now ++ 10 ∷ [])) c.new-out.ensures.items ∙ ap (λ xs. xs ++ 10 ∷ []) (c.session_header.ensures ∙ (ap (λ v. header v c.args.machine.now.size) version ∙ ap (λ e. header s.version e.size) extent));
+      pages_is = c.in_ok-push_keyed.ensures ∙ ap (λ n. c.push_line.new.out.items ++ (pages_key ++ (decimal n ++ 10 ∷ []))) (ap (λ e. e.pages) extent);
+      cells_is = c.in_ok-push_keyed-2.ensures ∙ ap (λ n. c.push_keyed.new.out.items ++ (cells_key ++ (decimal n ++ 10 ∷ []))) (ap (λ e. e.cells) extent);
       init_is = c.in_ok-push_section.ensures (map page_line s.init) sections.init;
       guest_is = c.in_ok-push_section-2.ensures (map guest_line s.guest) sections.guest;
       source_is = c.in_ok-push_section-3.ensures (map source_line s.source) sections.source;
