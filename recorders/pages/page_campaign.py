@@ -92,20 +92,25 @@ def made(row, fault, folder, emulator, turns, room):
         verdict = page_verdict.judged(f"{folder}/target", f"{folder}/source")
     except (Lost, build.Missing) as why:
         return f"{NOT_RECORDED}: {why}"
-    put_in = migration.put_in() if fault else []
+    return what_came(settings, outcome, verdict, migration.put_in() if fault else [])
+
+
+def what_came(settings, outcome, verdict, put_in):
+    """Returns in words what came of a migration that was recorded, with a fault in these pages. It may have ended for another cause, before the fault
+    could be told, or be put in."""
     places = sorted(f"{PC_RAM} + {page * PAGE:#x}" for page in put_in)
     if put_in and not verdict.is_clean and sorted(verdict.places) == places:
         return TOLD
     if put_in and outcome != SILENT and sorted(verdict.refused) == places:
         return REFUSED
-    has_ended = verdict.word.startswith("incomplete") or fault in faults.FOUND_BY_QEMU  # for another cause, before the fault could be told
-    if not verdict.is_clean and outcome != SILENT and (not fault or put_in and has_ended):
+    has_ended = verdict.word.startswith("incomplete") or settings.fault in faults.FOUND_BY_QEMU
+    if not verdict.is_clean and outcome != SILENT and (not settings.fault or put_in and has_ended):
         return FAILED
     if verdict.is_clean and not put_in:
-        return NOT_PUT_IN if fault else CLEAN
-    if fault and not put_in and outcome != SILENT:
+        return NOT_PUT_IN if settings.fault else CLEAN
+    if settings.fault and not put_in and outcome != SILENT:
         return f"{NOT_PUT_IN}: {verdict.word}; {outcome}"
-    if settings.has_balloon and not fault and outcome == SILENT and verdict.places and verdict.nothing == len(verdict.places):
+    if settings.has_balloon and not settings.fault and outcome == SILENT and verdict.places and verdict.nothing == len(verdict.places):
         return GIVEN_BACK
     return f"{verdict.word}, {len(verdict.places)} pages, {len(put_in)} put in; {outcome}"
 
