@@ -127,6 +127,10 @@ class _Log:
         first = int(head[2][1])
         part = self.parts.setdefault((os.path.dirname(path), process, head[2][2]), _Part(path, first))
         if part.first != first:
+            # (of the two faults of such a file, an end in front of what the part has is told)
+            last = _LAST.fullmatch(lines[-1])
+            if last is not None and not part.word and last[1] != "lost":
+                part.close(self.name, f"{path}:{len(lines)}", last[1], int(last[2]))
             raise Unfit(f"{path}:3: found '{lines[2]}', where {part.path} begins with record {part.first}")
         numbers = []
         for place, line in enumerate(lines[3:], 4):
