@@ -13,7 +13,9 @@ import signal
 import subprocess
 import sys
 import tempfile
+import threading
 import time
+import types
 
 import pytest
 from cases import same
@@ -714,6 +716,26 @@ def test_side_that_waits_for_nobody(monkeypatch, tmp_path, source, target):
     began = time.monotonic()
     same("outcome", migration.follow(), f"source {source}, target {target}")
     same("soon", time.monotonic() - began < page_migration.SECONDS / 4, True)
+
+
+def test_source_that_hangs(monkeypatch, tmp_path):
+    """It is killed, since the observer waits for it."""
+    killed = threading.Event()
+    watching = threading.Thread(target=killed.wait, args=(10,))
+    migration = page_migration.Migration(page_migration.Settings(is_precopy=True), tmp_path, None, None)
+    migration.room = types.SimpleNamespace(name=str, path="")
+    side = types.SimpleNamespace(name="source", hangs=True, stands=lambda: ("hangs", "hangs"), process=types.SimpleNamespace(kill=killed.set))
+    migration.machines = {"source": side}
+
+    def moved():
+        raise page_campaign.Ended(side, "hangs")
+
+    monkeypatch.setattr(migration, "start", lambda *words, **environment: None)
+    monkeypatch.setattr(migration, "begin_to_watch", lambda key, faults: watching.start() or watching)
+    monkeypatch.setattr(migration, "move", moved)
+    with pytest.raises(page_campaign.Ended, match="the source hangs"):
+        migration.migrate(KEY)
+    same("killed", killed.is_set(), True)
 
 
 def test_pages_of_a_fault(tmp_path):

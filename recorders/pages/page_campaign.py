@@ -20,6 +20,7 @@ from files import lines_of, write
 from kinds import MEMORIES
 from page_migration import FAULTS, PAGE, Migration, Settings
 from page_source import Lost
+from plain import Ended
 from results import markdown
 
 BALLOON = "Linux with a balloon, TCG"
@@ -90,7 +91,7 @@ def made(row, fault, folder, emulator, turns, room):
         with turns:
             outcome = migration.run()
         verdict = page_verdict.judged(f"{folder}/target", f"{folder}/source")
-    except (Lost, build.Missing) as why:
+    except (Lost, build.Missing, Ended) as why:
         return f"{NOT_RECORDED}: {why}"
     return what_came(settings, outcome, verdict, migration.put_in() if fault else [])
 

@@ -133,7 +133,7 @@ class Migration:
         try:
             outcome = self.move()
         finally:
-            if not self.is_over():
+            if not self.is_over() or self.machines["source"].hangs:
                 self.machines["source"].process.kill()  # nobody waits for a migration that came to no end
             watching.join()
         if faults:
