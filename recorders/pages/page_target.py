@@ -56,7 +56,7 @@ def prepare(folder, key, is_tracking, user=None):
     """Makes the target's folder, for an emulator that runs as this user. Returns the variables of its environment."""
     if " " in folder or ":" in folder:
         raise build.Missing(f"'{folder}': the loader takes no library from a folder whose name has a space or a colon")
-    built = build.build_observer("target", "-shared", "-fPIC", "-fvisibility=hidden")
+    built = build.build_observer("target", "-shared", "-fPIC", "-fvisibility=hidden", "-include", f"{build.HERE}/../pages/older.h")
     take_folder(folder)
     library = f"{folder}/{LIBRARY}"
     shutil.copyfile(built, library)

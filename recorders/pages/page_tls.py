@@ -22,7 +22,7 @@ def make(kind, folder):
         raise Missing("openssl not found: it makes the certificates. On Debian:\n    apt-get install --no-install-recommends openssl")
     certificate(folder, "ca", "/CN=authority", "basicConstraints=critical,CA:TRUE", "keyUsage=critical,keyCertSign,cRLSign")
     for end, (use, host) in USES.items():
-        certificate(folder, end, f"/CN={host}", "basicConstraints=critical,CA:FALSE", "keyUsage=critical,digitalSignature", f"extendedKeyUsage={use}",
+        certificate(folder, end, f"/CN={host}", "basicConstraints=critical,CA:FALSE", "keyUsage=critical,digitalSignature,keyEncipherment", f"extendedKeyUsage={use}",
                     f"subjectAltName=DNS:{host}", authority="ca")
 
 

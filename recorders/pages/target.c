@@ -30,10 +30,6 @@
 #include <unistd.h>
 #include "postcopy_record.h"
 
-#if defined __x86_64__ && defined __GLIBC__
-__asm__(".symver dlsym, dlsym@GLIBC_2.2.5");
-#endif
-
 #define WP_ASYNC (1 << 15) /* UFFD_FEATURE_WP_ASYNC, which older headers do not have */
 #define IS_PROTECTED (UINT64_C(1) << 57) /* of an entry of a page map: write-protected by userfaultfd */
 #define PART 256 /* pages that a thread takes at once */

@@ -109,7 +109,7 @@ def build_work():
 def build_observer(name, *how):
     """Returns one of the two observers of the recorder by page contents: `target`, a library with `how`, or `source`, a program."""
     library = "../../bindings/c/postcopy_record"
-    return built(f"{OUT}/pages-{name}", (f"../pages/{name}.c", "../pages/pages.c", f"{library}.c"), ("../pages/pages.h", f"{library}.h"),
+    return built(f"{OUT}/pages-{name}", (f"../pages/{name}.c", "../pages/pages.c", f"{library}.c"), ("../pages/pages.h", "../pages/older.h", f"{library}.h"),
                  f"-I{HERE}/../../bindings/c", *how)
 
 
