@@ -91,7 +91,7 @@ def made(row, fault, folder, emulator, turns, room):
         with turns:
             outcome = migration.run()
         verdict = page_verdict.judged(f"{folder}/target", f"{folder}/source")
-    except (Lost, build.Missing, Ended) as why:
+    except (Lost, build.Missing, Ended, ConnectionError) as why:
         return f"{NOT_RECORDED}: {why}"
     return what_came(settings, outcome, verdict, migration.put_in() if fault else [])
 

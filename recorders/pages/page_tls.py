@@ -45,4 +45,4 @@ def parameters(kind, end):
     """Returns the parameters of the migration."""
     if not kind:
         return {}
-    return {"tls-creds": "tls", **({"tls-hostname": HOST} if kind == "x509" and end == "client" else {})}
+    return {"tls-creds": "tls", **({"tls-hostname": HOST} if end == "client" else {})}
