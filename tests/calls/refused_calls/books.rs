@@ -656,7 +656,7 @@ fn over_the_lane(refuser: Refuser) -> Option<()> {
         || link.offer_lane(packet),
     );
     let len = refuser.none("link_book::LinkBook::lane_len", || link.lane_len());
-    refuser.right(len == 1);
+    refuser.right(len == 1 && !link.quiet());
     let event = Event::LinkTurn {
         direction: Direction::Lane,
         fate: Fate::Deliver,
