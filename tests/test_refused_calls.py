@@ -34,7 +34,7 @@ PARTS = {
     "packets": "page_stream",
     "texts": "cert_text guest_script session_log",
     "judges": "audit_report cert_check cert_maker judged_texts merge_runs migration_types::Session migration_types::line_of",
-    "books": "active_push link_book target_side",
+    "books": "active_push full_log link_book target_side",
     "cores": "session_core",
     "hosts": "host_threads",
 }
@@ -80,6 +80,8 @@ NONE = {
                  "LinkBook::offer_lane LinkBook::lane_len LinkBook::peek_lane LinkBook::pop_lane",
     "target_side": "GuestBook::guest_log TargetBook::guest_log TargetBook::geometry TargetBook::into_parts PagerBook::pager_log "
                    "PagerBook::flush PagerBook::next_page",
+    # (where the log is full)
+    "full_log": "TargetBook::halted PagerBook::deliver PagerBook::tick pager_tick",
 }
 
 # Those that make the growth of a line again, by itself, where it was refused to them among others; or that make it as lines come, where

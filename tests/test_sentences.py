@@ -348,6 +348,9 @@ STORIES = (
     ("a value of no record at the source", of_one_page(1, [], [], [], []).replace("guest 2\nhalt\n", "guest 3\nr 0 0 0 9\nhalt\n").replace("halted 0", "halted 1"), (), [
         "No record explains what page 0 has: somebody writes to it who records nothing, or memory is damaged.",
         "The guest is at the source by then: the migration has no part in it."]),
+    ("the same of a page that never comes", of_one_page(1, [], [], [], [], ["w 0 0 0 7"]).replace("guest 3\nhalt\n", "guest 4\nr 0 0 0 9\nhalt\n").replace("halted 0", "halted 1"), (), [
+        "faulty line 7 read", "No record explains what page 0 has: somebody writes to it who records nothing, or memory is damaged.",
+        "The guest is at the source by then: the migration has no part in it."]),
     ("a placement over a release, which a read gives", of_one_page(2, [SENT], ["down 2"], [], ["got 1", f"place 0 2 {SIX}"], ["z 0 0", "r 0 0 0 6"]), (), [
         "Page 0 goes wrong at line 23 (pager 3): the pager places it over a release of the guest.",
         "The first use of the page at the target is a release, which makes it zeros there: line 9 (guest 2): virtual processor 0 releases page 0."]),

@@ -5,6 +5,8 @@
 mod errors;
 #[cfg(test)]
 mod fronts;
+#[cfg(test)]
+mod held;
 pub mod numbers;
 #[cfg(test)]
 mod orders;

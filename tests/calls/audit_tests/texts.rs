@@ -424,6 +424,31 @@ place 0 2 0000000000000006
 end
 ";
 
+/// Page 0 is released at the source, and again at the target, and may come back as zeros after that.
+pub const ZEROED: &str = "postcopy-session 2
+pages 1
+cells 1
+init 1
+page 0 0000000000000006
+guest 5
+z 0 0
+halt
+resume 1
+z 0 0
+r 0 0 0 0
+source 2
+halted 1
+state
+link 1
+down 1
+lane 0
+pager 3
+got 0
+ready
+zero 0
+end
+";
+
 /// In the second version: page 0 comes when it is missed; page 1 is pushed, seen, and then released at the target;
 /// page 2 is released there before it comes, and never placed; page 3 was released at the source.
 pub const LATE_RELEASES: &str = "postcopy-session 2

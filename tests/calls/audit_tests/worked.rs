@@ -1,7 +1,7 @@
 //! The plain programs on the handover, on a session with a released page, and on faulty changes of both.
 
 use crate::plain::{names_of, page_fault, shape_fault};
-use crate::texts::{FOUND, FRESH, HANDOVER, OVER, PULLED, RELEASED, SEEN, changed_session};
+use crate::texts::{FOUND, FRESH, HANDOVER, OVER, PULLED, RELEASED, SEEN, ZEROED, changed_session};
 use audit_model::{Home, PageReason, ShapeReason};
 use cert_text::read_runs;
 use migration_types::{LogName, PageNo, Session};
@@ -29,6 +29,8 @@ enum Said {
     Breaks,
     /// This order is a merging, which breaks at this record, or nowhere.
     Ordered(&'static str, Option<(LogName, u32)>),
+    /// This order is no merging, since it leaves records out.
+    Unfinished(&'static str),
     /// Its guest releases page 0 at the target, where it never comes.
     Freed,
 }
@@ -42,7 +44,7 @@ struct Case {
     said: Said,
 }
 
-static CASES: [Case; 25] = [
+static CASES: [Case; 27] = [
     Case {
         is: "a fault that names no miss",
         session: HANDOVER,
@@ -184,6 +186,20 @@ static CASES: [Case; 25] = [
         said: Said::Ordered(AT_LAST, Some((LogName::Pager, 3))),
     },
     Case {
+        is: "zeros after a release at the target",
+        session: ZEROED,
+        old: "z 0 0",
+        new: "z 0 0",
+        said: Said::Ordered(ZEROS_AT_LAST, Some((LogName::Pager, 2))),
+    },
+    Case {
+        is: "an order that leaves the lane's record out",
+        session: OVER,
+        old: "lane 0\n",
+        new: "lane 1\ndown 2\n",
+        said: Said::Unfinished(AT_ONCE),
+    },
+    Case {
         is: "a release after a look",
         session: SEEN,
         old: "z 0 0",
@@ -317,6 +333,18 @@ run pager 1
 end
 ";
 
+/// The order of the session with zeros for a page that is released at the target, where they come as late as they can.
+const ZEROS_AT_LAST: &str = "postcopy-runs 1
+runs 6
+run guest 2
+run source 2
+run link 1
+run pager 2
+run guest 3
+run pager 1
+end
+";
+
 /// The names that an order's text spells; none where it is refused, or there is no memory.
 fn names_in(alloc: Global, text: &str) -> Option<Vec<(LogName, u32)>> {
     let runs = read_runs(alloc, text.as_bytes()).ok()?;
@@ -332,6 +360,14 @@ fn is_order_told(
 ) -> bool {
     match names_in(alloc, order) {
         Some(names) => is_merging(session, &names) && first_broken(session, &names) == broken,
+        None => false,
+    }
+}
+
+/// Whether an order is told as no merging of a session.
+fn is_unfinished(alloc: Global, session: &Session, order: &str) -> bool {
+    match names_in(alloc, order) {
+        Some(names) => !is_merging(session, &names),
         None => false,
     }
 }
@@ -432,6 +468,7 @@ fn holds(alloc: Global, session: &Session, said: &Said) -> bool {
         Said::Waits => are_orders_told(alloc, session, true),
         Said::Breaks => are_orders_told(alloc, session, false),
         Said::Ordered(order, broken) => is_order_told(alloc, session, order, *broken),
+        Said::Unfinished(order) => is_unfinished(alloc, session, order),
         Said::Freed => is_freed_page(alloc, session),
     }
 }

@@ -1,4 +1,4 @@
-//! Faults of three virtual processors on two pages, taken in and served.
+//! Faults of four virtual processors on three pages, taken in and served.
 
 use fault_queue::{Asked, FaultQueue, QueueFault};
 use migration_types::PageNo;
@@ -25,24 +25,27 @@ fn is_refused(queue: &mut FaultQueue, page: u32, vcpu: u8) -> bool {
     )
 }
 
-/// Whether faults on page 3 and page 5 are taken in.
+/// Whether faults on the pages 3, 5 and 4 are taken in.
 fn takes_in(queue: &mut FaultQueue) -> bool {
     queue.first().is_none()
         && is_asked(queue, 3, 0, Asked::New)
         && is_asked(queue, 3, 1, Asked::Joined)
         && is_refused(queue, 5, 1)
         && is_asked(queue, 5, 2, Asked::New)
+        && is_asked(queue, 4, 3, Asked::New)
 }
 
-/// Whether they are served.
+/// Whether they are served, and the oldest of the others comes next.
 fn serves(queue: &mut FaultQueue) -> bool {
     queue.first() == Some(PageNo::new(3))
-        && queue.pages() == 2
+        && queue.pages() == 3
+        && hands_over(queue, 3, &[0, 1])
+        && queue.first() == Some(PageNo::new(5))
         && queue.is_waiting(2)
         && hands_over(queue, 5, &[2])
         && !queue.is_waiting(2)
         && queue.served(PageNo::new(5)).is_none()
-        && hands_over(queue, 3, &[0, 1])
+        && hands_over(queue, 4, &[3])
         && queue.pages() == 0
 }
 

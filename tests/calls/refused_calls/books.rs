@@ -1,6 +1,7 @@
 //! The calls of the books, by the events of a migration.
 
 use crate::examples::Examples;
+use crate::full_logs;
 use crate::refusing::{MOST, Outcome, Refuser, WHICH};
 use active_push::{SourceBook, SourceFault};
 use balloon_ledger::Ledger;
@@ -655,7 +656,7 @@ fn over_the_lane(refuser: Refuser) -> Option<()> {
         || link.offer_lane(packet),
     );
     let len = refuser.none("link_book::LinkBook::lane_len", || link.lane_len());
-    refuser.right(len == 1);
+    refuser.right(len == 1 && !link.quiet());
     let event = Event::LinkTurn {
         direction: Direction::Lane,
         fate: Fate::Deliver,
@@ -677,6 +678,7 @@ fn over_the_lane(refuser: Refuser) -> Option<()> {
 pub fn make(refuser: Refuser, examples: &Examples) -> Option<()> {
     ticked(refuser, &examples.script("two-wait-for-a-page/script")?)?;
     over_the_lane(refuser)?;
+    full_logs::make(refuser)?;
     for folder in [
         "two-wait-for-a-page",
         "released-and-pushed",

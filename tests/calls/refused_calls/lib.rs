@@ -8,6 +8,7 @@ mod books;
 mod containers;
 mod cores;
 mod examples;
+mod full_logs;
 mod hosts;
 mod judges;
 mod packets;
@@ -48,7 +49,10 @@ fn of_texts(rt: HostRuntime) {
 #[test]
 fn of_judges(rt: HostRuntime) {
     let refuser = Refuser::new(rt);
-    tell(refuser, judges::make(&rt, refuser, &Examples::new(rt, FOLDER)));
+    tell(
+        refuser,
+        judges::make(&rt, refuser, &Examples::new(rt, FOLDER)),
+    );
 }
 
 #[test]
@@ -66,5 +70,8 @@ fn of_cores(rt: HostRuntime) {
 #[test]
 fn of_hosts(rt: HostRuntime) {
     let refuser = Refuser::new(rt);
-    tell(refuser, hosts::make(&rt, refuser, &Examples::new(rt, FOLDER)));
+    tell(
+        refuser,
+        hosts::make(&rt, refuser, &Examples::new(rt, FOLDER)),
+    );
 }
