@@ -1,7 +1,7 @@
 //! What is held of recordings that make no session, or none of the first version.
 
 use migration_types::{Contents, Size, Version};
-use recordings::{Visitor, WideInit, WideLane, WideMachine, WidePager};
+use recordings::{Visitor, Wide, WideInit, WideLane, WideMachine, WidePager};
 use std::alloc::{AllocError, Global};
 use std::test::Fail;
 use walked_sessions::{HeldRecording, Room};
@@ -58,14 +58,14 @@ fn versions_of(alloc: Global, held: [HeldRecording; 2]) -> Result<[bool; 2], All
 /// A recording with one delivery of the lane.
 fn delivered(alloc: Global) -> Result<HeldRecording, AllocError> {
     let mut held = begun(alloc)?;
-    held.lane(0, WideLane::Down { sending: 0 })?;
+    held.record(0, Wide::Lane(WideLane::Down { sending: 0 }))?;
     Ok(held)
 }
 
 /// A recording with one packet that the pager took of the lane.
 fn pulled(alloc: Global) -> Result<HeldRecording, AllocError> {
     let mut held = begun(alloc)?;
-    held.pager(0, WidePager::Pull { down: 0 })?;
+    held.record(0, Wide::Pager(WidePager::Pull { down: 0 }))?;
     Ok(held)
 }
 
