@@ -1,11 +1,11 @@
-"""A post-copy migration of three real processes, recorded as docs/RECORDING.md teaches, into which one bug can be put:
+"""A post-copy migration of three real processes, recorded as docs/RECORDING.md teaches, into which bugs can be put:
 
-    python3 own_migration.py ROOM BUG SEED..
+    python3 own_migration.py ROOM BUGS SEED..
 
 The source runs a guest of two processors, halts it, and sends its pages. The link loses, repeats and reorders pages and requests. The
-target's pager places pages, while the guest goes on there, and reads all memory at the end. BUG is one of BUGS, or `none`. The recording of
-a seed is the folder ROOM/SEED. A line for each seed tells the records that the bug made wrong: their logs and numbers. The processes act in
-turns, in an order that the seed gives: so each run of a seed has the same records.
+target's pager places pages, while the guest goes on there, and reads all memory at the end. BUGS is one of those below, or several with a
+`+` between, or `none`. The recording of a seed is the folder ROOM/SEED. A line for each seed tells the records that the bugs made wrong: their
+logs and numbers. The processes act in turns, in an order that the seed gives: so each run of a seed has the same records.
 """
 import json
 import multiprocessing
@@ -29,10 +29,10 @@ BUGS = (
 
 
 class Party:
-    """A process that acts when it has a turn, and its logs. `planted` has the records that the bug made wrong."""
+    """A process that acts when it has a turn, and its logs. `planted` has the records that the bugs made wrong."""
 
-    def __init__(self, folder, seed, bug, *links):
-        self.folder, self.bug, self.links, self.logs, self.planted = folder, bug, links, [], []
+    def __init__(self, folder, seed, bugs, *links):
+        self.folder, self.bugs, self.links, self.logs, self.planted = folder, set(bugs.split("+")), links, [], []
         self.rng = random.Random(f"{type(self).__name__} {seed}")
 
     def log(self, party, first=0):
@@ -70,7 +70,7 @@ class Host(Party):
             self.memory[page] = [0] * CELLS
             return self.guest.release(cpu, page)
         self.value += 1
-        is_lost = self.bug == self.loses and self.lost is None and self.accesses > ACCESSES - 8
+        is_lost = self.loses in self.bugs and self.lost is None and self.accesses > ACCESSES - 8
         if is_lost:
             self.lost = page
         else:
@@ -105,7 +105,7 @@ class Source(Host):
         if self.accesses < ACCESSES:
             return
         halt = self.guest.halt()
-        if self.bug == "write-after-halt":
+        if "write-after-halt" in self.bugs:
             self.wrote("guest", self.access(0, "write", min(set(range(PAGES)) - self.released), 0), True)
         self.source.halted(halt)
         self.link.send(("state", self.source.state(), self.guest.hand_over(), self.released, self.value))
@@ -114,8 +114,8 @@ class Source(Host):
     def send(self):
         if not self.is_sending:
             return
-        unsent = [page for page in range(PAGES) if page not in self.sent and (self.bug == "send-released" or page not in self.released)]
-        if self.bug == "both-run" and len(self.sent) == PAGES // 2:
+        unsent = [page for page in range(PAGES) if page not in self.sent and ("send-released" in self.bugs or page not in self.released)]
+        if "both-run" in self.bugs and len(self.sent) == PAGES // 2:
             self.wrote("source", self.source.back(), True)
             self.is_sending = False
         elif self.link.poll():
@@ -129,7 +129,7 @@ class Source(Host):
         if page in self.sent:
             number = self.source.again(self.sent[page])
         else:
-            is_stale = self.bug == "stale" and not self.planted and self.copies[page] != self.memory[page]
+            is_stale = "stale" in self.bugs and not self.planted and self.copies[page] != self.memory[page]
             self.memory[page] = self.copies[page] if is_stale else self.memory[page]
             is_wrong = is_stale or page in self.released or page == self.lost
             number = self.sent[page] = self.wrote("source", self.source.send(page, self.memory[page]), is_wrong)
@@ -172,14 +172,14 @@ class Target(Host):
             return
         first = ("release", min(self.absent()), 0) if not self.accesses else self.chosen()  # (a page that has not come)
         act, page, cell = self.waiting.get(cpu, first)
-        is_taken = any(page == late for late, *_ in self.late) and (self.bug == "early-table" or cpu in self.waiting)
+        is_taken = any(page == late for late, *_ in self.late) and ("early-table" in self.bugs or cpu in self.waiting)
         if page not in self.table and act != "release" and not is_taken:
             if cpu not in self.waiting:
                 self.faults.append((self.guest.miss(cpu, page), page))
             self.waiting[cpu] = (act, page, cell)
             return
         self.waiting.pop(cpu, None)
-        if is_taken and self.bug == "early-table":
+        if is_taken and "early-table" in self.bugs:
             self.trusted.add(page)
         if self.table.get(page, -1) > self.seen and page not in self.trusted:
             self.seen = self.table[page]
@@ -212,25 +212,25 @@ class Target(Host):
             first, self.released, self.value = more
             self.guest = self.log("guest", first)
             self.guest.resume(self.pager.ready())
-        elif self.bug in ("early", "early-table") and more[0] not in self.table:
+        elif self.bugs & {"early", "early-table"} and more[0] not in self.table:
             self.late.append((more[0], got, more[1]))
         else:
             self.put(more[0], got, more[1])
 
     def put(self, page, got, contents):
-        is_wrong, others = page in self.table and self.bug == ("over-write" if self.table[page] == -1 else "twice"), self.absent() - {page}
+        is_wrong, others = page in self.table and ("over-write" if self.table[page] == -1 else "twice") in self.bugs, self.absent() - {page}
         if page in self.table and not is_wrong:
             self.pager.skip(got)
             return
-        if self.bug == "flip" and not self.planted:
+        if "flip" in self.bugs and not self.planted:
             contents, is_wrong = [contents[0] ^ 1 << 40, *contents[1:]], True
-        elif self.bug == "wrong-page" and not self.planted and others:
+        elif "wrong-page" in self.bugs and not self.planted and others:
             page, is_wrong = min(others), True
         self.memory[page], self.table[page] = list(contents), self.wrote("pager", self.pager.place(page, got, contents), is_wrong)
 
     def answer(self, miss, page):
         self.pager.fault(miss)
-        is_wrong = self.bug == "zero-owed" and not self.planted and page in self.absent()
+        is_wrong = "zero-owed" in self.bugs and not self.planted and page in self.absent()
         if is_wrong or page in self.released and page not in self.table:
             self.memory[page], self.table[page] = [0] * CELLS, self.wrote("pager", self.pager.zero(page), is_wrong)
         elif page in self.wanted and page in self.absent():
@@ -246,13 +246,13 @@ class Target(Host):
         self.guest.read_all(0, max(self.table.values()), ((page, self.memory[page]) for page in self.table))
 
 
-def migrate(folder, seed, bug):
-    """Runs a migration. Returns the records that the bug made wrong."""
+def migrate(folder, seed, bugs):
+    """Runs a migration. Returns the records that the bugs made wrong."""
     system, rng, parties = multiprocessing.get_context("fork"), random.Random(seed), []
     (down, at_source), (up, at_target) = system.Pipe(), system.Pipe()
     for party, links in ((Source, (at_source,)), (Link, (down, up)), (Target, (at_target,))):
         turns, other = system.Pipe()
-        system.Process(target=lambda: party(folder, seed, bug, *links).serve(other), daemon=True).start()
+        system.Process(target=lambda: party(folder, seed, bugs, *links).serve(other), daemon=True).start()
         other.close()
         parties.append((party, turns))
     for turn in (*rng.choices(ACTS, k=TURNS), ("read_all",)):

@@ -2,7 +2,8 @@
 line that are named with both.
 
 The sessions are those of test_explained.py, but for large ones. Of one that is clean or faulty, `audit --all` has to write its first line, how many
-pages have a fault, and each with its first one; and the same pages as an object. Of another it writes the first line alone.
+pages have a fault, and each with its first one; and the same pages as an object. Of one of the wrong shape it does so where a page apart has
+a fault, as in test_pages_apart.py. Of another it writes the first line alone.
 `explain --page` has to name the faulty record of the page just where it has one, and `explain --line` the record at the line. Where a page
 has several faults, `explain --page` has to list them by reason, and so does its object, of each page.
 """
@@ -14,9 +15,10 @@ import subprocess
 import pytest
 from cases import each, same
 from check_model import Session as Judged
+from report_model import told_faults
 from session_text import LOGS, SessionText
 from test_explained import is_large, made_texts
-from world_model import REASONS, faults_by_reason, page_faults
+from world_model import REASONS, faults_by_reason
 
 TOP = os.path.dirname(os.path.dirname(os.path.abspath(__file__)))
 
@@ -43,16 +45,14 @@ class Tests:
 
     def session(self, what, text):
         first, status = self.says(text, "audit", "--quiet")
-        if first.split()[0] not in ("clean", "faulty"):
+        word = first.split()[0]
+        if word not in ("clean", "faulty", "shape"):
             self.same(f"all faults of {what}", self.says(text, "audit", "--all"), (first, status))
             return
+        found = self.listed(what, text, first, status)
+        if word == "shape":
+            return
         session, lines = Judged(text), SessionText(text)
-        found = {page: (lines.line(log, n), reason, log, n) for page, (log, n, reason) in page_faults(session).items()}
-        self.most = max(self.most, len(found))
-        told = "".join(f"page {page} line {line} {reason}\n" for page, (line, reason, _, _) in found.items())
-        self.same(f"all faults of {what}", self.says(text, "audit", "--all"), (f"{first}faulty-pages {len(found)}\n{told}", status))
-        pages = json.loads(self.says(text, "audit", "--all", "--format", "json")[0])["pages"]
-        self.same(f"the object of {what}", pages, [{"page": page, "line": it[0], "reason": it[1]} for page, it in found.items()])
         for page in range(min(session.pages, FEW)):
             self.page(f"page {page} of {what}", text, first, page, found.get(page))
             self.kinds(f"page {page} of {what}", text, page, lines, faults_by_reason(session, page))
@@ -61,6 +61,18 @@ class Tests:
                 told, _ = self.says(text, "explain", "--line", str(lines.line(log, n)))
                 name = f"line {lines.line(log, n)} ({log} {n})"
                 self.same(f"{name} of {what}", (told.startswith(first), name in told.replace("\nLine ", "\nline ")), (True, True))
+
+    def listed(self, what, text, first, status):
+        """The pages that have to be listed, each with its first fault: its line, its reason, and the record's log and number."""
+        lines = SessionText(text)
+        found = {page: (lines.line(log, n), reason, log, n) for page, (log, n, reason) in told_faults(text).items()}
+        self.most = max(self.most, len(found))
+        told = "".join(f"page {page} line {line} {reason}\n" for page, (line, reason, _, _) in found.items())
+        is_told = found or not first.startswith("shape ")
+        self.same(f"all faults of {what}", self.says(text, "audit", "--all"), (first + (f"faulty-pages {len(found)}\n{told}" if is_told else ""), status))
+        pages = json.loads(self.says(text, "audit", "--all", "--format", "json")[0]).get("pages")
+        self.same(f"the object of {what}", pages, [{"page": page, "line": it[0], "reason": it[1]} for page, it in found.items()] if is_told else None)
+        return found
 
     def page(self, what, text, first, page, fault):
         told, _ = self.says(text, "explain", "--page", str(page))

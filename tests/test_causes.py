@@ -1,4 +1,4 @@
-"""Whether `explain` says first what went wrong: a migration is run with a bug that is known (own_migration.py), again and again.
+"""Whether `explain` says first what went wrong: a migration is run with bugs that are known (own_migration.py), again and again.
 
 Without a bug each session is clean, and shows the whole migration. With one, a session in which the bug made a record wrong is faulty, unless
 a write was lost that nobody could miss; and the first record that `explain` names, which is that of its object's cause, has to be one that
@@ -68,6 +68,23 @@ def test_bug(program, room, pytestconfig, bug):
             cause = json.loads(said(program, "explain", "--format", "json", f"{room}/{seed}")).get("cause")
             count(not cause or [cause.get("log"), cause.get("record")] == first, f"seed {seed}: the cause is {cause}, and the first record that is named is {first}")
     same("faulty sessions", faulty, FAULTY[bug][is_all])
+
+
+def test_two_bugs(program, room, pytestconfig):
+    """The pager also puts a packet in the place of another page. A stale page is told all the same, and what the source did, unless it is that page."""
+    told = 0
+    for seed, wrong in enumerate(run(room, "wrong-page+stale", SEEDS[pytestconfig.getoption("--all")])):
+        session = SessionText(said(program, "session", f"{room}/{seed}"))
+        misplaced = [session.page(*record) for record in wrong if record[0] == "pager"]
+        stale = [session.page(*record) for record in wrong if record[0] == "source"]
+        same(f"the report of seed {seed}", said(program, "audit", "--quiet", f"{room}/{seed}").split()[0], "shape" if misplaced else "faulty")
+        pages = json.loads(said(program, "audit", "--all", "--format", "json", f"{room}/{seed}")).get("pages", [])
+        same(f"the pages of seed {seed}", [it["page"] for it in pages], [page for page in stale if page not in misplaced])
+        if misplaced and pages:
+            told += 1
+            story = said(program, "explain", f"{room}/{seed}").partition("Apart from that")[2]
+            count(first_named(story) in wrong, f"seed {seed}: the first record of the page apart is {first_named(story)}, and the bugs made {wrong} wrong")
+    count(told > 1, "a stale page beside a misplaced one is seldom told")
 
 
 # Small sessions with a wrong read, by seed, and kinds of causes that no order of the records gives.

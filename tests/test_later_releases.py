@@ -37,21 +37,12 @@ def resumed(session):
     return next((n for n, record in enumerate(session.logs["guest"]) if record.startswith("resume ")), None)
 
 
-def move_misses(session, at, by):
-    """Has the pager's records name the same misses, where the guest's records from a place on moved."""
-    for n, record in enumerate(session.logs["pager"]):
-        kind, *numbers = record.split(" ")
-        if kind == "fault" and int(numbers[0]) >= at:
-            session.logs["pager"][n] = f"fault {int(numbers[0]) + by}"
-
-
 def put(rng, session, resume):
     """Puts a release, a read or a write into the guest's log, somewhere after the resume."""
     pages, cells = (int(line.split(" ")[1]) for line in session.head[1:3])
     page, cell, kind = rng.randrange(pages), rng.randrange(cells), rng.choice("zzzrw")
     at = rng.randint(resume + 1, len(session.logs["guest"]))
-    session.logs["guest"].insert(at, f"z 0 {page}" if kind == "z" else f"{kind} 0 {page} {cell} {rng.choice((0, 3))}")
-    move_misses(session, at, 1)
+    session.insert("guest", at, f"z 0 {page}" if kind == "z" else f"{kind} 0 {page} {cell} {rng.choice((0, 3))}")
 
 
 def leave_out_look(rng, session):
@@ -59,7 +50,7 @@ def leave_out_look(rng, session):
     if looks:
         at = rng.choice(looks)
         del session.logs["guest"][at]
-        move_misses(session, at, -1)
+        session.move("guest", at, -1)
 
 
 def skip_placement(rng, session):

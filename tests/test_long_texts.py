@@ -12,10 +12,13 @@ A text takes 1,048,576 reads, with the one that finds its end, and a table of li
 not ended has 268,435,456 bytes. One read more and one byte more are refused.
 
 A text has 268,435,456 bytes. By its first bytes it may be longer: a session or a certificate of the third version, runs, and a report.
+
+The initial pages of a session are read at once up to the first that leaves no room for those to come, and not one by one.
 """
 import errno
 import functools
 import os
+import resource
 import signal
 import socket
 import struct
@@ -211,6 +214,20 @@ def told_by_tables(program, room):
         os.remove(f"{room}/table")
 
 
+# How many initial pages a session has, and for how many seconds of processor its text may be read.
+INITIAL, SECONDS = 60_000, 10
+
+
+def pages_without_room(program, room):
+    """The same of a session whose last initial page but one is the machine's last."""
+    pages = b"".join(b"page %d 0000000000000001\n" % page for page in (*range(INITIAL - 2), 65_535, 65_535))
+    write(room, "session", b"postcopy-session 1\npages 65536\ncells 1\ninit %d\n%sguest 0\nsource 0\nlink 0\npager 0\nend\n" % (INITIAL, pages))
+    limit = lambda: resource.setrlimit(resource.RLIMIT_CPU, (SECONDS, SECONDS))
+    ran = subprocess.run([program, "audit", "session"], cwd=room, capture_output=True, preexec_fn=limit)
+    wanted = b'session:60003:6: found "65535" in "page 65535 0000000000000001"; expected N, a number from 59998 to 65534, as in "page N HEX"\n'
+    yield "a page that leaves no room", (ran.stdout, ran.stderr, ran.returncode), (b"session-text line 60003\n", wanted, 1)
+
+
 # How many reads a text takes, with the one that finds its end, and how many bytes a line has that has not ended, at most.
 MOST_READS, LONGEST_LINE = 1 << 20, 1 << 28
 
@@ -314,7 +331,7 @@ def test_limits(program, room, refusing, tries):
 
 @pytest.mark.parametrize("tries", (
     pytest.param(replayed, marks=pytest.mark.cases(23)), pytest.param(replayed_by_one_thread, marks=pytest.mark.cases(23)), pytest.param(broken, marks=pytest.mark.cases(14)),
-    pytest.param(told_by_tables, marks=pytest.mark.cases(2))), ids=lambda it: it.__name__)
+    pytest.param(told_by_tables, marks=pytest.mark.cases(2)), pytest.param(pages_without_room, marks=pytest.mark.cases(1))), ids=lambda it: it.__name__)
 def test_long_texts(program, room, tries):
     for case in tries(program, room):
         same(*case)

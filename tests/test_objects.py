@@ -156,7 +156,8 @@ class Tests:
             self.same(f"the object of {what}", list(found.items()), list(object_of(text, session_bytes).items()))
 
     def told(self, what, options, report):
-        """The object of an explanation with these options, beside that of the audit: its topic and its records, and the words."""
+        """The object of an explanation with these options, beside that of the audit: its topic and its records, and the words. Where it has the
+        fault of a page apart, this is one that the audit lists."""
         status, output, errors = self.ran("explain", "--format", "json", *options, "session")
         words = self.ran("explain", *options, "session")
         self.same(f"the status of the story of {what}", status, words[0])
@@ -164,13 +165,20 @@ class Tests:
         found = json.loads(output)
         self.same(f"the line of the story of {what}", output.decode(), json.dumps(found, separators=(",", ":")) + "\n")
         names = list(found)
-        topic, cause, faults, records = (found.pop(name, None) for name in ("topic", "cause", "faults", "records"))
+        topic, fault, cause, faults, records = (found.pop(name, None) for name in ("topic", "fault", "cause", "faults", "records"))
         self.same(f"the story of {what}", list(found.items()), list(report.items()))
         self.same(f"the last fields of the story of {what}", names[len(found):],
-                  [name for name, it in (("topic", topic), ("cause", cause), ("faults", faults), ("records", records)) if it is not None])
+                  [name for name, it in (("topic", topic), ("fault", fault), ("cause", cause), ("faults", faults), ("records", records)) if it is not None])
+        self.apart(what, fault, options, report)
         self.same(f"whether faults are listed in the story of {what}", faults is not None, "page" in (topic or {}) and "pages" not in topic)
         self.cause(what, cause, records, words[1].decode())
         return topic, records, words[1].decode()
+
+    def apart(self, what, fault, options, report):
+        """The first fault, by line, of the pages apart from the faults of the shape."""
+        pages = json.loads(self.ran("audit", "--all", "--format", "json", "session")[1]).get("pages") if report["verdict"] == "shape" and not options else None
+        first = min(pages, key=lambda it: it["line"]) if pages else None
+        self.same(f"the fault apart of {what}", fault and {name: fault[name] for name in ("page", "line", "reason")}, first)
 
     def cause(self, what, cause, records, told):
         """The cause of a fault of a page, which is there just where the words tell such a fault. Its record is the first that they name."""

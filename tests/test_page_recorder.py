@@ -179,6 +179,15 @@ def test_clean(sides):
     same("verdict", (verdict.word, verdict.is_whole, verdict.told, verdict.pages, verdict.unwritten), ("clean", True, [], PAGES, -1))
 
 
+def test_older_machines(cc, tmp_path):
+    """The library asks for no version of the C library that is newer than 2.28."""
+    page_target.prepare(f"{tmp_path}/target", KEY, False)
+    with open(f"{tmp_path}/target/{page_target.LIBRARY}", "rb") as file:
+        versions = {tuple(map(int, it.split(b"."))) for it in re.findall(rb"GLIBC_([0-9.]+)", file.read())}
+    same("the newest version", [it for it in versions if it > (2, 28)], [])
+    same("the oldest of x86-64", (2, 2, 5) in versions, True)
+
+
 @pytest.mark.parametrize("page, place", [(200, "block 0 + 0xc8000"), (598, "block 0 + 0x256000"), (630, "/memfd:block + 0x1e000")])
 def test_told(sides, page, place):
     """A page that is put in place with other contents than it had at the source: it is told, and no other."""

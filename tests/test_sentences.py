@@ -86,6 +86,7 @@ FORMS = {
                    for where in ("this use, which then finds no page", "the release, and so over the zeros")],
     "Faults": [r"Page \d+ has \d+ faults in all:"],
     "FaultsFor": [rf"  (?:{'|'.join(WRONG)}): {many}" for many in (rf"1, at {PLACE}", rf"\d+, the first at {PLACE}")],
+    "Apart": [r"Apart from that, page \d+ goes wrong too\. No record of wrong shape is about it\."],
     "MoreFaulty": [r"1 more page has a fault; audit --all lists every one\.", r"\d+ more pages have a fault; audit --all lists every one\."],
     "Misshapen": [rf"L{PLACE[1:]} does not have the right shape: {DONE}\."],
     "OutOfPhase": [rf"{rule} Its first halt is {PLACE}, and (?:its first resume is {PLACE}|it is never resumed)\." for rule in (

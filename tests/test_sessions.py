@@ -315,7 +315,7 @@ def tests(program, room, monkeypatch):
 
 @pytest.mark.cases(3 * RECORDINGS)
 def test_sessions(tests, pytestconfig):
-    rng, count = random.Random(28), ALL if pytestconfig.getoption("--all") else RECORDINGS
+    rng, count = random.Random(34), ALL if pytestconfig.getoption("--all") else RECORDINGS
     ways = set()
     for number, made in enumerate(made_folders(rng, count)):
         compared(tests, f"recording {number}, {', '.join(made.did) or 'as it was'}", made.put("."), "out" if number % 3 == 0 else None)

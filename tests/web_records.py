@@ -107,7 +107,7 @@ def tests_of_records(program, node, sessions):
         told = json.loads(words_of(program, "audit", "--all", "--format", "json", name))
         faulty = [int(it) for it in re.findall(r"^page (\d+) ", words_of(program, "audit", "--all", name), re.M)]
         delayed = {"early": {"page": told.get("page")}, "over": {"line": told.get("line")}}.get(told.get("reason"), {})
-        pages = sorted({*faulty[:MOST_FAULTY], *([told["page"]] if faulty else []), *range(min(MOST_PAGES, int(read(name).split(b"\n")[1].split(b" ")[1])))})
+        pages = sorted({*faulty[:MOST_FAULTY], *([told["page"]] if told["verdict"] == "faulty" else []), *range(min(MOST_PAGES, int(read(name).split(b"\n")[1].split(b" ")[1])))})
         jobs.append((name, report, told, delayed, pages))
     given = "\n".join(json.dumps({"file": name, "delayed": delayed, "pages": pages}) for name, _, _, delayed, pages in jobs).encode()
     ran = subprocess.run([*node, f"{TOP}/tests/web_records.js"], input=given, stdout=subprocess.PIPE)

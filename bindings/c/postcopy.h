@@ -119,7 +119,7 @@ postcopy_answer postcopy_certify(const uint8_t *session, size_t session_len, uin
 postcopy_answer postcopy_audit(const uint8_t *session, size_t session_len, uint8_t *room, size_t room_len);
 
 /* Writes the first line of the report on a session, and each page that has a fault, in the same way. If the session does not
-   have the right shape, or has no merging, no pages are listed. */
+   have the right shape, only pages are listed that no record of the wrong shape touches; if it has no merging, none. */
 postcopy_answer postcopy_audit_all(const uint8_t *session, size_t session_len, uint8_t *room, size_t room_len);
 
 /* Writes the line that says what is missing first from a clean session, or nothing if the session tells of a whole migration.

@@ -67,7 +67,9 @@ class Told:
     """A session with its report and what `explain` says of it."""
 
     def __init__(self, text, report, told):
-        self.session, self.text, self.report, self.told = Session(text), SessionText(text), report, told
+        # (what goes wrong apart from the shape is not drawn)
+        drawn = re.sub("(?<=\n)Apart from that, (?s:.*)", "", told)
+        self.session, self.text, self.report, self.told = Session(text), SessionText(text), report, drawn
         self.head = report.split("\n", 1)[0].split()
         self.circle = circle_of(report, told)
         self.fault = self.cause = self.against = None

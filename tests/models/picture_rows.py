@@ -9,26 +9,6 @@ two that have rows has one too, and so has one at an end.
 """
 AT_ENDS, BESIDE = 8, 40
 
-# Which number of a record names the page that it is about, or which log's record names what it is about.
-PAGES = {"r": 2, "w": 2, "z": 2, "miss": 2, "send": 1, "want": 1, "place": 1, "zero": 1}
-ABOUT = {"see": "pager", "again": "source", "ask": "link", "down": "source", "up": "pager", "got": "link", "pull": "lane", "fault": "guest",
-         "join": "pager", "skip": "pager"}
-
-
-def page_of(records, name):
-    """The page that a record is about, or None."""
-    for _ in range(5):
-        log, place = name
-        if place >= len(records.logs[log]):
-            return None
-        word, *numbers = records.logs[log][place].split(" ")
-        if word in PAGES:
-            return int(numbers[PAGES[word] - 1])
-        if word not in ABOUT:
-            return None
-        name = ABOUT[word], int(numbers[0])
-    return None
-
 
 def word_of(records, name):
     return records.logs[name[0]][name[1]].split(" ")[0]
@@ -49,14 +29,14 @@ def concerns(told, records, page, middle, place, name):
         return True
     if page is None:
         return records.named(*name) is not None
-    if page_of(records, name) != page:
+    if records.page(*name) != page:
         return False
     return place > middle or word_of(records, name) not in ("r", "w") or told.names(name)
 
 
 def kept_places(told, records, order):
     """The places of the order that have a row, but for single records between them."""
-    page, middle = told.fault and page_of(records, told.fault) if told.topic is None else told.topic, middle_of(told, records, order)
+    page, middle = told.fault and records.page(*told.fault) if told.topic is None else told.topic, middle_of(told, records, order)
     interest = {name for place, name in enumerate(order) if concerns(told, records, page, middle, place, name)}
     interest |= {records.named(*name) for name in interest} - {None}
     wanted = {place for place, name in enumerate(order) if name in interest}

@@ -1,8 +1,8 @@
 """The first line of what `audit` says of a session, slowly and plainly, by docs/FORMATS.md. It takes sessions that are well formed."""
 from check_model import Session
 from session_text import LOGS, SessionText
-from shape_model import shape_fault
-from world_model import first_fault
+from shape_model import pages_apart, shape_fault
+from world_model import first_fault, page_faults
 
 
 def knot_of(session):
@@ -22,6 +22,16 @@ def judgement(text):
         return ("knot", *knot)
     fault = first_fault(Session(text))
     return ("clean",) if fault is None else ("faulty", *fault)
+
+
+def told_faults(text):
+    """The first fault of each page of which it is told, by page, as a record's log, its place there and the reason. Of a session of the wrong
+    shape these are the pages apart, and of one without a merging there are none."""
+    word, found = judgement(text)[0], page_faults(Session(text))
+    if word == "shape":
+        apart = pages_apart(text)
+        return {page: fault for page, fault in found.items() if page in apart}
+    return {} if word == "knot" else found
 
 
 def first_line(text):

@@ -5,6 +5,15 @@ LOGS = ("guest", "source", "link", "lane", "pager")
 # The log that a receipt names a record of.
 RECEIPTS = {"resume": "pager", "see": "pager", "halted": "guest", "fault": "guest", "down": "source", "up": "pager", "ask": "link", "got": "link", "pull": "lane"}
 
+# The receipts of the handover, which are about no page.
+HANDOVER = ("resume", "halted")
+
+# The records that tell a page, by the place of it among their words. (No log has a word of another with a page in another place.)
+PAGE = {"r": 2, "w": 2, "z": 2, "miss": 2, "send": 1, "want": 1, "place": 1, "zero": 1}
+
+# The records that name one of their own log, and the place of the name.
+OWN = {"again": 1, "join": 1, "skip": 1, "place": 2}
+
 
 def logs_of(version):
     """The logs that a session of this version has; the first has no lane."""
@@ -42,6 +51,31 @@ class SessionText:
         """The record of another log that a record is a receipt for, or None."""
         words = self.logs[log][place].split(" ")
         return (RECEIPTS[words[0]], int(words[1])) if words[0] in RECEIPTS else None
+
+    def page(self, log, place):
+        """The page that a record is about, itself or by what it names, in at most five records; or None."""
+        for _ in range(5):
+            words = self.logs[log][place].split(" ") if place < len(self.logs[log]) else [""]
+            if words[0] in PAGE:
+                return int(words[PAGE[words[0]]])
+            if words[0] in HANDOVER or words[0] not in (*RECEIPTS, *OWN):
+                return None
+            log, place = RECEIPTS.get(words[0], log), int(words[1])
+        return None
+
+    def insert(self, log, place, *records):
+        """Puts records into a log. What was named there is named still."""
+        self.logs[log][place:place] = records
+        self.move(log, place, len(records))
+
+    def move(self, log, place, by):
+        """Has all records name the same records of a log, where those from a place on moved."""
+        for other, records in self.logs.items():
+            for n, record in enumerate(records):
+                words = record.split(" ")
+                at = 1 if RECEIPTS.get(words[0]) == log else OWN.get(words[0]) if other == log else None
+                if at is not None and int(words[at]) >= place:
+                    records[n] = " ".join([*words[:at], str(int(words[at]) + by), *words[at + 1:]])
 
     def in_order(self, runs):
         """The records, by log and place, in the order that runs give; each run is a log and a count."""

@@ -27,8 +27,9 @@ class Shape:
 
     def delivery(self, taking):
         """The record of the source that a `got` or `pull` of the pager brings, or the one that it repeats."""
-        kind, down = self.record("pager", taking)
-        sent = self.record("source", int(self.record(RECEIPTS[kind], int(down))[1]))
+        kind, *numbers = self.record("pager", taking)
+        carried = self.record(RECEIPTS[kind], int(numbers[0])) if kind in ("got", "pull") else [""]
+        sent = self.record("source", int(carried[1])) if carried[0] == "down" else [""]
         return self.record("source", int(sent[1])) if sent[0] == "again" else sent
 
     def is_out_of_phase(self, log, n):
@@ -64,7 +65,6 @@ class Shape:
         record = self.record(log, n)
         return record[0] == "send" and any(before[:2] == record[:2] for before in self.logs[log][:n])
 
-
     def is_at_both(self, log, n):
         """Whether it starts the guest again at the source that was resumed at the target."""
         return self.record(log, n)[0] == "back" and "resume" in self.kinds_before("guest", len(self.logs["guest"]))
@@ -76,8 +76,26 @@ REASONS = {
 }
 
 
-def shape_fault(text):
-    """The first fault of the shape: its log, its place there and its reason; or None."""
+def shape_faults(text):
+    """The faults of the shape, from the first on: of each the record's log, its place there and the reason."""
     shape = Shape(text)
     records = ((log, n) for log in shape.logs for n in range(len(shape.logs[log])))
-    return next(((log, n, reason) for log, n in records for reason, has in REASONS.items() if has(shape, log, n)), None)
+    return ((log, n, reason) for log, n in records for reason, has in REASONS.items() if has(shape, log, n))
+
+
+def shape_fault(text):
+    """The first fault of the shape, or None."""
+    return next(shape_faults(text), None)
+
+
+def pages_apart(text):
+    """The pages that are judged apart from the faults of the shape: those that no such record is about. There are none where a log
+    begins wrongly, or a look is such a record, or one is about no page."""
+    session = SessionText(text)
+    pages = set(range(int(session.head[1].split(" ")[1])))
+    for log, n, reason in shape_faults(text):
+        page = session.page(log, n)
+        if reason == "start" or page is None or session.logs[log][n].startswith("see "):
+            return set()
+        pages.discard(page)
+    return pages

@@ -3,16 +3,10 @@ crates/audit_model/specs/Windows.antt, where records name what is not there, or 
 
 It takes recordings that are well formed. Their numbers have no limit here.
 """
-from session_text import RECEIPTS, SessionText
+from session_text import OWN, PAGE, RECEIPTS, SessionText
 
 # The records that are kept whatever they name, beside those of a page of the window.
 ALWAYS = {"guest": {"halt", "resume"}, "source": {"halted", "state", "done", "back"}, "link": set(), "lane": set(), "pager": {"ready", "all"}}
-
-# The records that tell a page, by the place of it among their words. (No log has a word of another with a page in another place.)
-PAGE = {"r": 2, "w": 2, "z": 2, "miss": 2, "send": 1, "want": 1, "place": 1, "zero": 1}
-
-# The records that name one of their own log, and the place of the name.
-OWN = {"again": 1, "join": 1, "skip": 1, "place": 2}
 
 
 class Recording(SessionText):

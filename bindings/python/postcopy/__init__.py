@@ -251,8 +251,9 @@ class Report(Answer):
         return page_in(_line(self.session, self.line or 0)) if self.kind is Kind.FAULTY else None
 
     def faults(self) -> List[Fault]:
-        """Each page that has a fault, in ascending order, with its first fault. The list is empty if the session is not faulty."""
-        return _faults(audit_all(self.session).text) if self.kind is Kind.FAULTY else []
+        """Each page that has a fault, in ascending order, with its first fault; of a misshapen session, each such page that no
+        misshapen record touches. The list is empty if there is none."""
+        return _faults(audit_all(self.session).text) if self.kind in (Kind.FAULTY, Kind.SHAPE) else []
 
     def explain(self, page: Optional[int] = None, line: Optional[int] = None) -> str:
         """The story of the session in words, after the first line of the report; or that of a page, or of the record at a line of
@@ -517,8 +518,8 @@ def audit(session: Text) -> Report:
 
 
 def audit_all(session: Text) -> Answer:
-    """Returns the first line of the report on a session, and each page that has a fault, as the command `audit --all` writes them.
-    Raises OutOfMemory if memory runs out."""
+    """Returns the first line of the report on a session, and each page that has a fault, as the command `audit --all` writes them. If
+    the session does not have the right shape, these are pages that no record of the wrong shape touches. Raises OutOfMemory if memory runs out."""
     return _with_text(_library().postcopy_audit_all, session)
 
 

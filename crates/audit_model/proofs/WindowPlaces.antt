@@ -17,8 +17,9 @@ use Rattle.migration_types.specs.declared.records.PagerRec.TheVariants.{Got, Pul
 use Rattle.migration_types.specs.Sessions.{Recorded}
 use Rattle.audit_model.specs.declared.reasons.ShapeReason.TheVariants.{Named}
 use Rattle.audit_model.specs.Names.{if_there}
-use Rattle.audit_model.specs.Shape.{passes, delivers, taken_sending, down_sending, lane_sending, pager_named, is_miss, is_down, is_want, is_taking, is_send_of, is_or_repeats, keeps, is_right, IsRightShape}
-use Rattle.audit_model.specs.Windows.{Numbers, IsNumbering, is_seen, new_page, keeps_sending, keeps_taking, keeps_asking, keeps_miss, keeps_source, keeps_link, keeps_lane, keeps_pager, marks, moved_to, new_guest, new_source, new_link, new_lane, new_pager, window}
+use Rattle.audit_model.specs.Shape.{passes, delivers, taken_sending, down_sending, lane_sending, pager_named, is_miss, is_down, is_want, is_taking, is_send_of, is_or_repeats, keeps, is_right}
+use Rattle.audit_model.specs.Windows.{Numbers, IsNumbering, is_seen, new_page, keeps_sending, keeps_taking, keeps_asking, keeps_miss, keeps_source, keeps_link, keeps_lane, keeps_pager, marks, moved_to, new_guest, new_source, new_link, new_lane, new_pager, is_marked, window}
+use Rattle.audit_model.specs.WindowLaws.{IsRightWithin}
 use Rattle.audit_model.proofs.Ranks.{rank_less, new_at, mark_of, mark_is}
 use Rattle.audit_model.proofs.WindowCells.{same_page}
 use Rattle.audit_model.proofs.WindowFaults.{seen_at}
@@ -153,7 +154,7 @@ module _ (number : Numbers) (s : Recorded) (count : ℕ) where
   pager_right ours n (Zero p) kept e = refl
   pager_right ours n All kept e = refl
 
-  pub pager_named_right : IsRightShape s → IsNumbering number → (n : ℕ) → is_right (window number count s) Named (Pager, n) ≡ true
-  pager_named_right shape ours =
+  pub pager_named_right : IsRightWithin s number → IsNumbering number → (n : ℕ) → is_right (window number count s) Named (Pager, n) ≡ true
+  pager_named_right right ours =
       keeps_through (new_pager s number) (marks s number Pager) s.pager (pager_named (window number count s))
-      (λ n x is mark. pager_right ours n x (mark_of (keeps_pager s number) s.pager n x true is mark) (sym (ap (keeps (pager_named s n)) is) ∙ shape Named (Pager, n)))
+      (λ n x is mark. pager_right ours n x (mark_of (keeps_pager s number) s.pager n x true is mark) (sym (ap (keeps (pager_named s n)) is) ∙ right Named (Pager, n) (ap is_marked mark)))

@@ -17,9 +17,9 @@ use Rattle.migration_types.specs.declared.records.PagerRec.TheVariants.{Ready, W
 use Rattle.migration_types.specs.declared.version.Version.{Version}
 use Rattle.migration_types.specs.Sessions.{Recorded}
 use Rattle.audit_model.specs.declared.reasons.ShapeReason.TheVariants.{Phases, Named, SecondSend, Both}
-use Rattle.audit_model.specs.Shape.{passes, earlier, is_halt, is_resume, is_up, is_ready, is_sending, is_placement, is_send_of, goes_down, goes_up, is_or_repeats, in_phase_by, in_phase, guest_named, source_named, link_named, lane_named, keeps, is_first_send, is_alone, is_right, IsRightShape}
-use Rattle.audit_model.specs.Windows.{Numbers, IsNumbering, new_page, kept_in, rank, reach, furthest, keeps_sending, keeps_asking, keeps_placement, keeps_source, keeps_guest, keeps_link, keeps_lane, keeps_pager, marks, moved_to, new_guest, new_source, new_link, new_lane, new_pager, window}
-use Rattle.audit_model.specs.WindowLaws.{KeepsBoth}
+use Rattle.audit_model.specs.Shape.{passes, earlier, is_halt, is_resume, is_up, is_ready, is_sending, is_placement, is_send_of, goes_down, goes_up, is_or_repeats, in_phase_by, in_phase, guest_named, source_named, link_named, lane_named, keeps, is_first_send, is_alone, is_right}
+use Rattle.audit_model.specs.Windows.{Numbers, IsNumbering, new_page, kept_in, rank, reach, furthest, keeps_sending, keeps_asking, keeps_placement, keeps_source, keeps_guest, keeps_link, keeps_lane, keeps_pager, marks, moved_to, new_guest, new_source, new_link, new_lane, new_pager, is_marked, window}
+use Rattle.audit_model.specs.WindowLaws.{KeepsBoth, IsRightWithin}
 use Rattle.audit_model.proofs.Ranks.{aligned_map, rank_less, new_at, mark_of, came_from, fold_kept, any_kept, mark_is}
 use Rattle.audit_model.proofs.WindowCells.{guest_aligned, guest_marked, same_page, other_page}
 use Rattle.audit_model.proofs.WindowLooks.{newest_at, placement_mark}
@@ -95,7 +95,7 @@ module _ (number : Numbers) (s : Recorded) where
           ap (keeps (is_alone (window number count s))) (new_at (new_source s number) (marks s number Source) s.source n x is (mark_is (keeps_source s number) s.source n x is (kept x e)))
           ∙ alone_through count x ∙ e
 
-module _ (number : Numbers) (s : Recorded) (count : ℕ) (shape : IsRightShape s) where
+module _ (number : Numbers) (s : Recorded) (count : ℕ) (right : IsRightWithin s number) where
   new_halt : (x : GuestRec) → is_halt (new_guest s number x) ≡ is_halt x
   new_halt Halt = refl
   new_halt (Read c r d y) = refl
@@ -137,7 +137,7 @@ module _ (number : Numbers) (s : Recorded) (count : ℕ) (shape : IsRightShape s
       ap (λ b. in_phase_by s.version b (earlier is_resume (window number count s).guest (moved_to s number Guest n)) (new_guest s number x)) (same_earlier is_halt new_halt gone_halt n)
       ∙ ap (λ b. in_phase_by s.version (earlier is_halt s.guest n) b (new_guest s number x)) (same_earlier is_resume (new_resume number s) (gone_resume number s) n)
       ∙ same_phase s.version (earlier is_halt s.guest n) (earlier is_resume s.guest n) x
-      ∙ sym (ap (keeps (in_phase s n)) is) ∙ shape Phases (Guest, n))
+      ∙ sym (ap (keeps (in_phase s n)) is) ∙ right Phases (Guest, n) (ap is_marked mark))
 
   ready_new : (x : PagerRec) → is_ready x ≡ true → is_ready (new_pager s number x) ≡ true
   ready_new Ready e = refl
@@ -167,7 +167,7 @@ module _ (number : Numbers) (s : Recorded) (count : ℕ) (shape : IsRightShape s
   pub guest_named_right : (n : ℕ) → is_right (window number count s) Named (Guest, n) ≡ true
   guest_named_right =
       keeps_through (new_guest s number) (marks s number Guest) s.guest (λ n. guest_named (window number count s))
-      (λ n x is mark. let r = guest_marked s number n x true is mark in guest_right n x r (sym (ap (keeps (guest_named s)) is) ∙ shape Named (Guest, n)))
+      (λ n x is mark. let r = guest_marked s number n x true is mark in guest_right n x r (sym (ap (keeps (guest_named s)) is) ∙ right Named (Guest, n) (ap is_marked mark)))
 
   pub up_new : (x : LinkRec) → is_up x ≡ true → is_up (new_link s number x) ≡ true
   up_new (Up i) e = refl
@@ -206,7 +206,7 @@ module _ (number : Numbers) (s : Recorded) (count : ℕ) (shape : IsRightShape s
   pub source_named_right : (n : ℕ) → is_right (window number count s) Named (Source, n) ≡ true
   source_named_right =
       keeps_through (new_source s number) (marks s number Source) s.source (source_named (window number count s))
-      (λ n x is mark. source_right n x mark (mark_of (keeps_source s number) s.source n x true is mark) (sym (ap (keeps (source_named s n)) is) ∙ shape Named (Source, n)))
+      (λ n x is mark. source_right n x mark (mark_of (keeps_source s number) s.source n x true is mark) (sym (ap (keeps (source_named s n)) is) ∙ right Named (Source, n) (ap is_marked mark)))
 
   link_right : (x : LinkRec) → keeps_link s number x ≡ true → link_named s x ≡ true → link_named (window number count s) (new_link s number x) ≡ true
   link_right (Down i) kept e = passes_through (new_source s number) (marks s number Source) s.source goes_down goes_down down_new i (mark_by (is_or_repeats s (keeps_sending number)) (keeps_source s number) s.source (sending_kept s number) i kept) e
@@ -215,7 +215,7 @@ module _ (number : Numbers) (s : Recorded) (count : ℕ) (shape : IsRightShape s
   pub link_named_right : (n : ℕ) → is_right (window number count s) Named (Link, n) ≡ true
   link_named_right =
       keeps_through (new_link s number) (marks s number Link) s.link (λ n. link_named (window number count s))
-      (λ n x is mark. link_right x (mark_of (keeps_link s number) s.link n x true is mark) (sym (ap (keeps (link_named s)) is) ∙ shape Named (Link, n)))
+      (λ n x is mark. link_right x (mark_of (keeps_link s number) s.link n x true is mark) (sym (ap (keeps (link_named s)) is) ∙ right Named (Link, n) (ap is_marked mark)))
 
   lane_right : (x : LaneRec) → keeps_lane s number x ≡ true → lane_named s x ≡ true → lane_named (window number count s) (new_lane s number x) ≡ true
   lane_right (LaneDown i) kept e = passes_through (new_source s number) (marks s number Source) s.source goes_down goes_down down_new i (mark_by (is_or_repeats s (keeps_sending number)) (keeps_source s number) s.source (sending_kept s number) i kept) e
@@ -223,13 +223,13 @@ module _ (number : Numbers) (s : Recorded) (count : ℕ) (shape : IsRightShape s
   pub lane_named_right : (n : ℕ) → is_right (window number count s) Named (Lane, n) ≡ true
   lane_named_right =
       keeps_through (new_lane s number) (marks s number Lane) s.lane (λ n. lane_named (window number count s))
-      (λ n x is mark. lane_right x (mark_of (keeps_lane s number) s.lane n x true is mark) (sym (ap (keeps (lane_named s)) is) ∙ shape Named (Lane, n)))
+      (λ n x is mark. lane_right x (mark_of (keeps_lane s number) s.lane n x true is mark) (sym (ap (keeps (lane_named s)) is) ∙ right Named (Lane, n) (ap is_marked mark)))
 
   -- no page is sent for the first time twice
   pub second_right : IsNumbering number → (n : ℕ) → is_right (window number count s) SecondSend (Source, n) ≡ true
   second_right ours =
       keeps_through (new_source s number) (marks s number Source) s.source (is_first_send (window number count s))
-      (λ n x is mark. first n x (mark_of (keeps_source s number) s.source n x true is mark) (sym (ap (keeps (is_first_send s n)) is) ∙ shape SecondSend (Source, n)))
+      (λ n x is mark. first n x (mark_of (keeps_source s number) s.source n x true is mark) (sym (ap (keeps (is_first_send s n)) is) ∙ right SecondSend (Source, n) (ap is_marked mark)))
     where
       new_send : (p q : ℕ) → number p ≡ Some q → (x : SourceRec) → keeps_source s number x ≡ true → is_send_of q (new_source s number x) ≡ is_send_of p x
       new_send p q at (Send r content) e = same_page number ours p q at r e
@@ -268,4 +268,4 @@ module _ (number : Numbers) (s : Recorded) (count : ℕ) (shape : IsRightShape s
   pub both_right : (n : ℕ) → is_right (window number count s) Both (Source, n) ≡ true
   both_right =
       keeps_through (new_source s number) (marks s number Source) s.source (λ n. is_alone (window number count s))
-      (λ n x is mark. alone_through number s count x ∙ sym (ap (keeps (is_alone s)) is) ∙ shape Both (Source, n))
+      (λ n x is mark. alone_through number s count x ∙ sym (ap (keeps (is_alone s)) is) ∙ right Both (Source, n) (ap is_marked mark))

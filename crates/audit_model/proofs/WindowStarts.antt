@@ -13,6 +13,7 @@ use Rattle.migration_types.specs.Sessions.{Recorded}
 use Rattle.audit_model.specs.declared.reasons.ShapeReason.TheVariants.{Phases, Named, Start, SecondSend, Both}
 use Rattle.audit_model.specs.Shape.{delivers, is_state, source_start, pager_start, keeps, is_right, IsRightShape}
 use Rattle.audit_model.specs.Windows.{Numbers, IsNumbering, kept_in, rank, keeps_sending, keeps_source, keeps_pager, marks, moved_to, new_source, new_pager, window}
+use Rattle.audit_model.specs.WindowLaws.{StartsRight, IsRightWithin}
 use Rattle.audit_model.proofs.Consistent.{there}
 use Rattle.audit_model.proofs.Ranks.{rank_next, rank_up, new_at, mark_is, aligned_map, kept_length}
 use Rattle.audit_model.proofs.WindowShape.{keeps_through, phase_right, guest_named_right, source_named_right, link_named_right, lane_named_right, second_right, both_right}
@@ -35,9 +36,9 @@ second_rank marks zeroth first = rank_next marks 1 first ∙ ap suc (first_rank 
 later : (k : ℕ) → 2 ≤ k → (j : ℕ) × (k ≡ suc (suc j))
 later k le = (k - 2, omega arith)
 
-module _ (number : Numbers) (s : Recorded) (count : ℕ) (shape : IsRightShape s) where
+module _ (number : Numbers) (s : Recorded) (count : ℕ) (starts : StartsRight s) where
   start_at : (n : ℕ) (x : SourceRec) → slice_get s.source n ≡ Some x → source_start s n x ≡ true
-  start_at n x is = sym (ap (keeps (source_start s n)) is) ∙ shape Start (Source, n)
+  start_at n x is = sym (ap (keeps (source_start s n)) is) ∙ starts (Source, n)
 
   zeroth_mark : (n : ℕ) (x : SourceRec) → slice_get s.source n ≡ Some x → slice_get (marks s number Source) 0 ≡ Some true
   zeroth_mark n x is = let r = lower_there s.source 0 n x is (omega arith) in go r.0 r.1 (start_at 0 r.0 r.1)
@@ -95,7 +96,7 @@ module _ (number : Numbers) (s : Recorded) (count : ℕ) (shape : IsRightShape s
       (λ n x is mark. source_start_at n x is (start_at n x is))
 
   pager_start_of : (n : ℕ) (x : PagerRec) → slice_get s.pager n ≡ Some x → pager_start s n x ≡ true
-  pager_start_of n x is = sym (ap (keeps (pager_start s n)) is) ∙ shape Start (Pager, n)
+  pager_start_of n x is = sym (ap (keeps (pager_start s n)) is) ∙ starts (Pager, n)
 
   state_through : delivers s is_state 0 ≡ true → (slice_get (marks s number Pager) 0 ≡ Some true) × (delivers (window number count s) is_state 0 ≡ true)
   state_through e = delivers_through number s count is_state is_state narrow renews 0 e
@@ -152,15 +153,19 @@ module _ (number : Numbers) (s : Recorded) (count : ℕ) (shape : IsRightShape s
       keeps_through (new_pager s number) (marks s number Pager) s.pager (pager_start (window number count s))
       (λ n x is mark. pager_start_at n x is (pager_start_of n x is))
 
+-- Only what is in the window has to be right, and how the session starts.
+pub right_by_kept : (number : Numbers) → IsNumbering number → (s : Recorded) (count : ℕ) → StartsRight s → IsRightWithin s number → IsRightShape (window number count s)
+right_by_kept number ours s count starts right Phases (Guest, n) = phase_right number s count right n
+right_by_kept number ours s count starts right Named (Guest, n) = guest_named_right number s count right n
+right_by_kept number ours s count starts right Named (Source, n) = source_named_right number s count right n
+right_by_kept number ours s count starts right Named (Link, n) = link_named_right number s count right n
+right_by_kept number ours s count starts right Named (Lane, n) = lane_named_right number s count right n
+right_by_kept number ours s count starts right Named (Pager, n) = pager_named_right number s count right ours n
+right_by_kept number ours s count starts right Start (Source, n) = source_start_right number s count starts n
+right_by_kept number ours s count starts right Start (Pager, n) = pager_start_right number s count starts n
+right_by_kept number ours s count starts right SecondSend (Source, n) = second_right number s count right ours n
+right_by_kept number ours s count starts right Both (Source, n) = both_right number s count right n
+right_by_kept number ours s count starts right reason name = refl
+
 pub right_through : (number : Numbers) → IsNumbering number → (s : Recorded) (count : ℕ) → IsRightShape s → IsRightShape (window number count s)
-right_through number ours s count shape Phases (Guest, n) = phase_right number s count shape n
-right_through number ours s count shape Named (Guest, n) = guest_named_right number s count shape n
-right_through number ours s count shape Named (Source, n) = source_named_right number s count shape n
-right_through number ours s count shape Named (Link, n) = link_named_right number s count shape n
-right_through number ours s count shape Named (Lane, n) = lane_named_right number s count shape n
-right_through number ours s count shape Named (Pager, n) = pager_named_right number s count shape ours n
-right_through number ours s count shape Start (Source, n) = source_start_right number s count shape n
-right_through number ours s count shape Start (Pager, n) = pager_start_right number s count shape n
-right_through number ours s count shape SecondSend (Source, n) = second_right number s count shape ours n
-right_through number ours s count shape Both (Source, n) = both_right number s count shape n
-right_through number ours s count shape reason name = refl
+right_through number ours s count shape = right_by_kept number ours s count (shape Start) (λ reason name kept. shape reason name)

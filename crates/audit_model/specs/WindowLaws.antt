@@ -4,7 +4,8 @@ use Rattle.migration_types.specs.Receipts.{Name}
 use Rattle.migration_types.specs.Sessions.{Recorded}
 use Rattle.migration_types.specs.declared.records.LogName.TheVariants.{Source}
 use Rattle.audit_model.specs.declared.reasons.PageReason.{PageReason}
-use Rattle.audit_model.specs.declared.reasons.ShapeReason.TheVariants.{Both}
+use Rattle.audit_model.specs.declared.reasons.ShapeReason.{ShapeReason}
+use Rattle.audit_model.specs.declared.reasons.ShapeReason.TheVariants.{Start, Both}
 use Rattle.audit_model.specs.Mergings.{IsMerging}
 use Rattle.audit_model.specs.Faults.{IsPageFault, HasNoPageFault}
 use Rattle.audit_model.specs.Shape.{is_right}
@@ -20,6 +21,14 @@ KeepsPageFaults s number count =
 abbrev pub KeepsBoth : Recorded → Numbers → ℕ → Type 0
 KeepsBoth s number count =
     (n : ℕ) → is_right s Both (Source, n) ≡ false → is_right (window number count s) Both (new_name s number (Source, n)) ≡ false
+
+-- the session starts as it must
+abbrev pub StartsRight : Recorded → Type 0
+StartsRight s = (name : Name) → is_right s Start name ≡ true
+
+-- each record that is in the window has the right shape in the session
+abbrev pub IsRightWithin : Recorded → Numbers → Type 0
+IsRightWithin s number = (reason : ShapeReason) (name : Name) → IsInWindow s number name → is_right s reason name ≡ true
 
 -- the order of a session's records in a window: those that are kept, by their new names
 abbrev pub order_through : Recorded → Numbers → List Name → List Name

@@ -15,7 +15,7 @@ ghost use Rattle.audit_model.specs.Shape.{IsRightShape};
 ghost use Rattle.audit_model.specs.Fitting.{Fits, FitsSize, IsWithinLimits};
 ghost use Rattle.audit_model.specs.Faults.{HasNoPageFault};
 ghost use Rattle.audit_model.specs.Windows.{Numbers, numbers_from, IsNumbering, IsWindow, window};
-ghost use Rattle.audit_model.specs.WindowLaws.{KeepsPageFaults, KeepsBoth, MergesThrough, IsCleanThroughWindows};
+ghost use Rattle.audit_model.specs.WindowLaws.{KeepsPageFaults, KeepsBoth, StartsRight, IsRightWithin, MergesThrough, IsCleanThroughWindows};
 ghost use Rattle.audit_model.specs.Laws.{IsCertified, FindsResident, ReadsFlat, PlacedOnce, PlacedUntouched, ReleasedAsZeros, IsMigrated, IsFaultless, FaultsBreak, DelayedBreaks, DelayedUnplaced, HasDelayedOrders, UnplacedBreaks, DelayedOver, SafeExactlyIfClean, HasCertificate, FirstVersionIsPlain, CertifiedFromSource, CertifiedOverLane, CertifiedBalloon, CertifiedFresh};
 
 /// A list of names is a merging exactly when it is a walk of one cursor for each log, to the end of each log. If
@@ -110,6 +110,12 @@ pub fn windows_keep_faults()
     ensures cover { (s : Recorded) → Fits s → IsCleanThroughWindows s → HasNoPageFault s }
     ensures safe { (s : Recorded) → Fits s → IsRightShape s → IsCleanThroughWindows s → IsSafe s }
     ensures exactly { (s : Recorded) → Fits s → IsRightShape s → HasMerging s → IsSafe s ↔ IsCleanThroughWindows s }
+{}
+
+/// A window has the right shape if the session starts as it must and each record in the window has the right shape,
+/// whatever the shape of the records outside it.
+pub fn windows_leave_misshapen_records_out()
+    ensures { (s : Recorded) (number : Numbers) (count : ℕ) → IsNumbering number → StartsRight s → IsRightWithin s number → IsRightShape (window number count s) }
 {}
 
 /// A window of this many pages in their order, such as consecutive pages, gives no two pages the same number. Through a

@@ -19,7 +19,7 @@ pub use home::Home;
 pub use laws::{
     any_size_is_judged_alike, certified_is_safe, clean_is_certified, faults_are_unsafe,
     first_version_is_plain, mergings_are_walks, premises_can_be_met, windows_are_sessions,
-    windows_keep_faults, worlds_follow_cursors,
+    windows_keep_faults, windows_leave_misshapen_records_out, worlds_follow_cursors,
 };
 use migration_types::{GuestRec, LaneRec, LinkRec, PageNo, PagerRec, Session, SourceRec, Version};
 pub use reasons::{PageReason, ShapeReason};

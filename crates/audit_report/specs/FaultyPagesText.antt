@@ -17,9 +17,14 @@ faulty_page_line f = codes "page " ++ decimal f.fault.page ++ codes " line " ++ 
 abbrev pub faulty_pages_lines : List FaultyPage → List (List ℕ)
 faulty_pages_lines pages = counted (codes "faulty-pages ") faulty_page_line pages []
 
+-- the same, or nothing if there is no such page
+abbrev pub some_faulty_pages_lines : List FaultyPage → List (List ℕ)
+some_faulty_pages_lines [] = []
+some_faulty_pages_lines (page ∷ pages) = faulty_pages_lines (page ∷ pages)
+
 -- what follows the first line
 abbrev pub pages_after : Report → List FaultyPage → List (List ℕ)
-pages_after (Shape fault) pages = []
+pages_after (Shape fault) pages = some_faulty_pages_lines pages
 pages_after (Knot left found) pages = []
 pages_after (Faulty line fault order many) pages = faulty_pages_lines pages
 pages_after (Clean cert) pages = faulty_pages_lines pages

@@ -2,7 +2,7 @@
 
 ghost use Rattle.std.specs.Prelude.{◌≡◌, [], ◌∷◌, ◌++◌, IfOk, OnOk};
 ghost use Rattle.text_lines.specs.Text.{ended};
-ghost use Rattle.audit_report.specs.FaultyPagesText.{all_faults_text, faulty_page_line, faulty_pages_lines, pages_after};
+ghost use Rattle.audit_report.specs.FaultyPagesText.{all_faults_text, faulty_page_line, faulty_pages_lines, pages_after, some_faulty_pages_lines};
 
 use crate::Report;
 use crate::printing::print_first_line;
@@ -33,6 +33,16 @@ pub fn push_faulty_pages(out: &mut Vec<u8>, pages: &[FaultyPage]) -> Result<(), 
     Ok(())
 }
 
+/// Appends the lines of the pages with a fault, or nothing if there is no such page.
+fn push_some_faulty_pages(out: &mut Vec<u8>, pages: &[FaultyPage]) -> Result<(), AllocError>
+    ensures { OnOk result (out.new.items ≡ out.old.items ++ ended (some_faulty_pages_lines pages.now)) }
+{
+    match pages {
+        [] => Ok(()),
+        _ => push_faulty_pages(out, pages),
+    }
+}
+
 /// Appends what follows the first line of a report that lists each page with a fault.
 fn push_pages_after(
     out: &mut Vec<u8>,
@@ -43,13 +53,14 @@ fn push_pages_after(
 {
     match report {
         Report::Clean(_) | Report::Faulty { .. } => push_faulty_pages(out, pages),
-        Report::Shape(_) | Report::Knot { .. } => Ok(()),
+        Report::Shape(_) => push_some_faulty_pages(out, pages),
+        Report::Knot { .. } => Ok(()),
     }
 }
 
 /// Returns the text of a report that lists each page with a fault: the report's first line, and then the lines of these
-/// pages if the report is clean or faulty. No page is listed for a session that does not have the right shape, or has
-/// no merging. Each line ends with LF. Fails only if memory runs out.
+/// pages if the report is clean or faulty, or if it is of the shape and there are any. No page is listed for a session
+/// that has no merging. Each line ends with LF. Fails only if memory runs out.
 pub fn print_all_faults(
     alloc: Global,
     report: &Report,

@@ -1,5 +1,5 @@
 -- The first fault of a log is the first of the session where the logs before it have none.
-use Rattle.std.proofs.Common.{◌≡◌, ℕ, ◌+◌, ◌<◌, ◌≤◌, ◌⊎◌, inl, inr, Bool, true, false, length, Some, None, refl, sym, ap, ◌∙◌, subst, arith, eq-eqb}
+use Rattle.std.proofs.Common.{◌≡◌, ℕ, ◌+◌, ◌<◌, ◌≤◌, ◌⊎◌, inl, inr, Bool, true, false, List, length, get_or, Some, None, refl, sym, ap, ◌∙◌, subst, arith, eq-eqb}
 use Rattle.std.proofs.lemmas.Bool.{cases_lt, cases_order}
 use Rattle.migration_types.specs.declared.records.LogName.{LogName}
 use Rattle.migration_types.specs.declared.records.LogName.TheVariants.{Guest, Source, Link, Lane, Pager}
@@ -9,12 +9,14 @@ use Rattle.migration_types.specs.Receipts.{Name, log_index, logs}
 use Rattle.migration_types.specs.Sessions.{Recorded, IsSession, line_of}
 use Rattle.audit_model.specs.Names.{log_length}
 use Rattle.audit_model.specs.Shape.{is_right, IsRightShape}
+use Rattle.cert_check.specs.Verdicts.{IsShapeFault}
+use Rattle.cert_check.specs.declared.verdict.ShapeFault.{ShapeFault}
 use Rattle.cert_check.specs.inner.FirstOfLog.{first_reason, reason_at, IsRightLog, IsFirstOfLog}
 use Rattle.audit_model.specs.Reasons.{rank}
 use Rattle.audit_model.specs.FirstFault.{IsFirstFault}
 use Rattle.audit_model.proofs.Cuts.{same_from_test}
 use Rattle.merge_runs.proofs.Lines.{lines_rise}
-use Rattle.merge_runs.proofs.Logs.{index_small}
+use Rattle.merge_runs.proofs.Logs.{index_of_place, index_small}
 use Rattle.cert_check.proofs.FirstOfLog.{past_end}
 
 -- which of five tests a reason asks for
@@ -102,7 +104,7 @@ wrong_at s name t e = test_is s t name ∙ (some_reason t t (is_right s Phases n
 pub least_at : (s : Recorded) (name : Name) (t r : ShapeReason) → reason_at s name ≡ Some t → is_right s r name ≡ false → rank t ≤ rank r
 least_at s name t r e f = (some_reason r t (is_right s Phases name) (is_right s Named name) (is_right s Start name) (is_right s SecondSend name) (is_right s Both name) e).1 (sym (test_is s r name) ∙ f)
 
-none_wrong : {A : Type 0} (s : Recorded) (name : Name) (r : ShapeReason) → reason_at s name ≡ None → is_right s r name ≡ false → A
+pub none_wrong : {A : Type 0} (s : Recorded) (name : Name) (r : ShapeReason) → reason_at s name ≡ None → is_right s r name ≡ false → A
 none_wrong s name r e f = let t = right_from_none s name e r in absurd (cc)
 
 -- the place of a fault is within its log
@@ -124,7 +126,7 @@ wrong_there s r log n e = go (cases_lt n (log_length s log))
 abbrev IsAfter : Recorded → ShapeReason → Name → ShapeReason → Name → Type 0
 IsAfter s reason name r other = (line_of s name < line_of s other) ⊎ ((line_of s name ≡ line_of s other) × (rank reason ≤ rank r))
 
-same_line : (s : Recorded) (log : LogName) (a b : ℕ) → a < b → line_of s (log, a) < line_of s (log, b)
+pub same_line : (s : Recorded) (log : LogName) (a b : ℕ) → a < b → line_of s (log, a) < line_of s (log, b)
 same_line s Guest a b lt = omega arith
 same_line s Source a b lt = omega arith
 same_line s Link a b lt = omega arith
@@ -132,15 +134,15 @@ same_line s Lane a b lt = omega arith
 same_line s Pager a b lt = omega arith
 
 -- in one log
-same_log_after : (s : Recorded) (log : LogName) (place : ℕ) (reason : ShapeReason) → IsFirstOfLog s log place reason → (r : ShapeReason) (n : ℕ) → is_right s r (log, n) ≡ false → IsAfter s reason (log, place) r (log, n)
-same_log_after s log place reason first r n f = go (cases_order n place)
+same_log_after : (s : Recorded) (log : LogName) (f : ShapeFault) → IsFirstOfLog s log f → (r : ShapeReason) (n : ℕ) → is_right s r (log, n) ≡ false → IsAfter s f.reason (log, f.place) r (log, n)
+same_log_after s log f first r n wrong = go (cases_order n f.place)
   where
-    go : (n ≡ place) ⊎ ((n < place) ⊎ (place < n)) → IsAfter s reason (log, place) r (log, n)
-    go (inl same) = inr (ap (λ k. line_of s (log, k)) (sym same), least_at s (log, place) reason r first.is_reason (subst (λ k. is_right s r (log, k) ≡ false) same f))
-    go (inr (inl lt)) = none_wrong s (log, n) r (first.is_right_below n lt) f
-    go (inr (inr gt)) = inl (same_line s log place n gt)
+    go : (n ≡ f.place) ⊎ ((n < f.place) ⊎ (f.place < n)) → IsAfter s f.reason (log, f.place) r (log, n)
+    go (inl same) = inr (ap (λ k. line_of s (log, k)) (sym same), least_at s (log, f.place) f.reason r first.is_reason (subst (λ k. is_right s r (log, k) ≡ false) same wrong))
+    go (inr (inl lt)) = none_wrong s (log, n) r (first.is_right_below n lt) wrong
+    go (inr (inr gt)) = inl (same_line s log f.place n gt)
 
-same_index : (a b : LogName) → log_index a ≡ log_index b → a ≡ b
+pub same_index : (a b : LogName) → log_index a ≡ log_index b → a ≡ b
 same_index a b e = same_from_test a b (eq-eqb (log_index a) (log_index b) e)
 
 -- no record of the first so many logs has a fault
@@ -155,15 +157,25 @@ one_more_log s log before right other lt = go (cases_lt (log_index other) (log_i
     go (inr more) = subst (IsRightLog s) (same_index log other (omega (arith, lt, more))) right
 
 -- the first fault of a log, where the logs before it have none
-pub log_first : (s : Recorded) (log : LogName) (place : ℕ) (reason : ShapeReason) → IsSession s → AreRightLogs s (log_index log) → IsFirstOfLog s log place reason → IsFirstFault s reason (log, place)
-log_first s log place reason limits before first = record { is_wrong = wrong_at s (log, place) reason first.is_reason; is_first = λ r other f. go r other f (cases_order (log_index log) (log_index other.0)) }
+log_first : (s : Recorded) (log : LogName) (f : ShapeFault) → IsSession s → AreRightLogs s (log_index log) → IsFirstOfLog s log f → IsFirstFault s f.reason (log, f.place)
+log_first s log f limits before first = record { is_wrong = wrong_at s (log, f.place) f.reason first.is_reason; is_first = λ r other wrong. go r other wrong (cases_order (log_index log) (log_index other.0)) }
   where
-    go : (r : ShapeReason) (other : Name) → is_right s r other ≡ false → (log_index log ≡ log_index other.0) ⊎ ((log_index log < log_index other.0) ⊎ (log_index other.0 < log_index log)) → IsAfter s reason (log, place) r other
-    go r (m, n) f (inl same) =
+    go : (r : ShapeReason) (other : Name) → is_right s r other ≡ false → (log_index log ≡ log_index other.0) ⊎ ((log_index log < log_index other.0) ⊎ (log_index other.0 < log_index log)) → IsAfter s f.reason (log, f.place) r other
+    go r (m, n) wrong (inl same) =
         let own : m ≡ log = same_index m log (sym same) in
-        subst (λ (l : LogName). IsAfter s reason (log, place) r (l, n)) (sym own) (same_log_after s log place reason first r n (subst (λ (l : LogName). is_right s r (l, n) ≡ false) own f))
-    go r (m, n) f (inr (inl behind)) = inl (lines_rise s limits log m place n behind (within s log place reason first.is_reason))
-    go r (m, n) f (inr (inr earlier)) = none_wrong s (m, n) r (before m earlier n) f
+        subst (λ (l : LogName). IsAfter s f.reason (log, f.place) r (l, n)) (sym own) (same_log_after s log f first r n (subst (λ (l : LogName). is_right s r (l, n) ≡ false) own wrong))
+    go r (m, n) wrong (inr (inl behind)) = inl (lines_rise s limits log m f.place n behind (within s log f.place f.reason first.is_reason))
+    go r (m, n) wrong (inr (inr earlier)) = none_wrong s (m, n) r (before m earlier n) wrong
+
+pub first_in_log : (s : Recorded) (log : LogName) (f : ShapeFault) → IsSession s → AreRightLogs s (log_index log) → IsFirstOfLog s log f → IsShapeFault s f
+first_in_log s log f limits before first = record {
+  is_line = subst (λ (l : LogName). f.line ≡ line_of s (l, f.place)) (sym first.is_log) first.is_line;
+  is_first = subst (λ (l : LogName). IsFirstFault s f.reason (l, f.place)) (sym first.is_log) (log_first s log f limits before first);
+}
 
 pub shape_right : (s : Recorded) → AreRightLogs s (length logs) → IsRightShape s
 shape_right s right r (log, n) = right_from_none s (log, n) (right log (index_small log) n) r
+
+-- the log of this number
+pub at_place : (k : ℕ) (ls : List LogName) → ls ≡ logs → k < length logs → log_index (get_or ls k Guest) ≡ k
+at_place k ls list lt = ap (λ (xs : List LogName). log_index (get_or xs k Guest)) list ∙ index_of_place k Guest lt

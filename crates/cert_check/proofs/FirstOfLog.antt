@@ -1,5 +1,5 @@
 -- The reason at a record, and what is known below the next one.
-use Rattle.std.proofs.Common.{not, cond, eqb, ◌≡◌, ℕ, suc, ◌+◌, ◌<◌, ◌≤◌, ◌⊎◌, inl, inr, Bool, true, false, ◌||◌, List, length, Option, Some, None, refl, sym, ap, ◌∙◌, arith}
+use Rattle.std.proofs.Common.{not, cond, eqb, ◌≡◌, ℕ, suc, ◌+◌, ◌<◌, ◌≤◌, ◌⊎◌, inl, inr, Bool, true, false, ◌||◌, List, length, Option, Some, None, refl, sym, ap, ◌∙◌, subst, arith}
 use Rattle.std.specs.Prelude.{slice_get}
 use Rattle.std.proofs.lemmas.Bool.{cases_lt}
 use Rattle.std.proofs.lemmas.Option.{slice_get_past}
@@ -8,12 +8,10 @@ use Rattle.migration_types.specs.declared.records.LogName.TheVariants.{Guest, So
 use Rattle.migration_types.specs.declared.records.SourceRec.{SourceRec}
 use Rattle.migration_types.specs.declared.records.SourceRec.TheVariants.{Halted, State, Send, Again, Ask, Done, Back}
 use Rattle.audit_model.specs.declared.reasons.ShapeReason.{ShapeReason}
-use Rattle.migration_types.specs.Sessions.{Recorded}
+use Rattle.migration_types.specs.Sessions.{Recorded, line_of}
 use Rattle.audit_model.specs.Names.{log_length}
 use Rattle.page_store.specs.Tables.{Values, values, IsWith}
-use Rattle.std.specs.Option.{MatchOption}
-use Rattle.cert_check.specs.declared.log_passes.Found.{Found}
-use Rattle.cert_check.specs.inner.Passes.{HaveNone, IsFirstFrom}
+use Rattle.cert_check.specs.declared.verdict.ShapeFault.{ShapeFault}
 use Rattle.audit_model.specs.Flat.{changed}
 use Rattle.audit_model.specs.Shape.{keeps, earlier, is_send_of, in_phase, guest_named, source_named, source_start, is_first_send, is_alone, link_named, lane_named, pager_named, pager_start}
 use Rattle.cert_check.specs.inner.FirstOfLog.{first_reason, is_unmarked, marked_by, sent_before, AreSent, reason_at, IsRightBelow, IsRightLog, IsFirstOfLog}
@@ -49,12 +47,30 @@ past_end s Link n le = link_past s n le
 past_end s Lane n le = lane_past s n le
 past_end s Pager n le = pager_past s n le
 
-to_the_end : (s : Recorded) (log : LogName) (k : ℕ) → ((n : ℕ) → k ≤ n → reason_at s (log, n) ≡ None) → IsRightBelow s log k → IsRightLog s log
-to_the_end s log k past below n = go (cases_lt n k)
+-- no record of a log has a fault where none has one before its end
+pub right_whole : (s : Recorded) (log : LogName) → IsRightBelow s log (log_length s log) → IsRightLog s log
+right_whole s log below n = go (cases_lt n (log_length s log))
   where
-    go : (n < k) ⊎ (k ≤ n) → reason_at s (log, n) ≡ None
+    go : (n < log_length s log) ⊎ (log_length s log ≤ n) → reason_at s (log, n) ≡ None
     go (inl l) = below n l
-    go (inr l) = past n l
+    go (inr l) = past_end s log n l
+
+-- one more record of a log that has no fault
+pub right_more : (s : Recorded) (log : LogName) (n : ℕ) → IsRightBelow s log n → reason_at s (log, n) ≡ None → IsRightBelow s log (n + 1)
+right_more s log n below none k lt = go (cases_lt k n)
+  where
+    go : (k < n) ⊎ (n ≤ k) → reason_at s (log, k) ≡ None
+    go (inl l) = below k l
+    go (inr l) = let same : k ≡ n = omega (arith, l, lt) in ap (λ m. reason_at s (log, m)) same ∙ none
+
+-- the first record of a log with a fault, as it is told
+pub first_told : (s : Recorded) (log : LogName) (n : ℕ) (reason : ShapeReason) (f : ShapeFault) → f.line ≡ line_of s (log, n) → f.log ≡ log → f.place ≡ n → f.reason ≡ reason → reason_at s (log, n) ≡ Some reason → IsRightBelow s log n → IsFirstOfLog s log f
+first_told s log n reason f line of place same is below = record {
+  is_line = line ∙ ap (λ m. line_of s (log, m)) (sym place);
+  is_log = of;
+  is_reason = ap (λ m. reason_at s (log, m)) place ∙ is ∙ ap Some (sym same);
+  is_right_below = subst (IsRightBelow s log) (sym place) below;
+}
 
 pub source_turn : (s : Recorded) (marks : Values Bool) (n : ℕ) (x : SourceRec) (found : Option ShapeReason) → slice_get s.source n ≡ Some x → AreSent s n marks →
     found ≡ first_reason true (source_named s n x) (source_start s n x) (is_unmarked (values marks) x) (is_alone s x) → reason_at s (Source, n) ≡ found
@@ -94,8 +110,3 @@ marks_turn s n x old new is was on = record {
 
     next : marked_by x (sent_before s n) ≡ sent_before s (n + 1)
     next = λ i p. at p i
-
--- what a pass over a log found
-pub of_found : (s : Recorded) (log : LogName) (len : ℕ) (o : Option (Found ShapeReason)) → log_length s log ≤ len → MatchOption o (HaveNone (λ n. reason_at s (log, n)) 0 len) (λ f. IsFirstFrom (λ n. reason_at s (log, n)) 0 f.place f.reason) → MatchOption o (IsRightLog s log) (λ f. IsFirstOfLog s log f.place f.reason)
-of_found s log len None whole none = to_the_end s log len (λ n le. past_end s log n (omega arith)) (λ n lt. none n (omega arith) lt)
-of_found s log len (Some f) whole first = record { is_reason = first.is_reason; is_right_below = λ n lt. first.none_before n (omega arith) lt }

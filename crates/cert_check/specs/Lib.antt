@@ -1,3 +1,4 @@
 pub mod Verdicts
 pub mod Promises
+pub mod ShapeFaults
 pub mod inner

@@ -12,5 +12,5 @@ mod verdict;
 pub use entry_judges::EntryJudges;
 pub use judge::{check, check_by, check_par};
 pub use places::{page_at, run_at};
-pub use shape_fault::shape;
+pub use shape_fault::{shape, shape_faults};
 pub use verdict::{ShapeFault, Verdict};

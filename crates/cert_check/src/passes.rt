@@ -1,16 +1,17 @@
-//! How the records of each log are judged for the shape, one after the other, and the first fault of a log.
+//! How the records of each log are judged for the shape, one after the other, and the misshapen ones of a log.
 
-ghost use Rattle.std.specs.Prelude.{◌≡◌, ◌||◌, true, MatchOption, IfOk};
+ghost use Rattle.std.specs.Prelude.{◌≡◌, ◌||◌, true, IfOk, MatchOption, OnOk};
 ghost use Rattle.migration_types.specs.declared.records.LogName.TheVariants.{Guest, Source, Link, Lane, Pager};
-ghost use Rattle.migration_types.specs.Sessions.{IsSession};
-ghost use Rattle.audit_model.specs.Names.{log_length};
+ghost use Rattle.migration_types.specs.Sessions.{IsSession, log_length};
 ghost use Rattle.audit_model.specs.Shape.{in_phase_by, is_halt, is_resume, guest_named, source_named, link_named, lane_named, pager_named, source_start, pager_start, is_alone};
 ghost use Rattle.page_store.specs.Tables.{pages_of, values, IsWith};
 ghost use Rattle.page_facts.specs.Moved.{SourcePage};
-ghost use Rattle.cert_check.specs.inner.FirstOfLog.{first_reason, is_unmarked, marked_by, reason_at, AreSent, IsRightLog, IsFirstOfLog};
+ghost use Rattle.cert_check.specs.inner.FaultsUpTo.{AreFaultsUpTo};
+ghost use Rattle.cert_check.specs.inner.FirstOfLog.{first_reason, is_unmarked, marked_by, AreSent, IsRightLog, IsFirstOfLog};
 ghost use Rattle.cert_check.specs.inner.Phases.{ArePhases, ArePhasesAfter};
 
-use crate::log_passes::{Found, Pass, first_found};
+use crate::log_passes::{Pass, first_found, push_found};
+use crate::verdict::ShapeFault;
 use audit_model::{
     ShapeReason, guest_named, in_phase, is_alone, is_halt, is_resume, lane_named, link_named,
     pager_named, pager_start, source_named, source_start,
@@ -67,21 +68,23 @@ fn phases_after(rec: &GuestRec, phases: Phases) -> Phases
 impl Pass for GuestPass {
     type State = Phases;
 
-    type Reason = ShapeReason;
-
-    ghost count = { λ s. log_length s Guest };
-
-    ghost reason = { λ s n. reason_at s (Guest, n) };
+    ghost log = { Guest };
 
     ghost IsAt = { ArePhases };
 
-    fn judge(session: &Session, phases: &mut Phases, n: usize) -> Option<ShapeReason> {
-        let rec = &session.guest()[n];
-        if let Some(reason) = guest_reason(session, rec, *phases) {
-            return Some(reason);
-        }
-        *phases = phases_after(rec, *phases);
-        None
+    fn begin(_alloc: Global, _session: &Session) -> Result<Phases, AllocError> {
+        Ok(Phases {
+            halted: false,
+            resumed: false,
+        })
+    }
+
+    fn reason(session: &Session, phases: &Phases, n: usize) -> Option<ShapeReason> {
+        guest_reason(session, &session.guest()[n], *phases)
+    }
+
+    fn step(session: &Session, phases: &mut Phases, n: usize) {
+        *phases = phases_after(&session.guest()[n], *phases);
     }
 }
 
@@ -134,60 +137,63 @@ fn source_reason(
 impl Pass for SourcePass {
     type State = Table<bool>;
 
-    type Reason = ShapeReason;
-
-    ghost count = { λ s. log_length s Source };
-
-    ghost reason = { λ s n. reason_at s (Source, n) };
+    ghost log = { Source };
 
     ghost IsAt = { AreSent };
 
-    fn judge(session: &Session, sent: &mut Table<bool>, n: usize) -> Option<ShapeReason> {
-        let rec = &session.source()[n];
-        if let Some(reason) = source_reason(session, n, rec, sent) {
-            return Some(reason);
-        }
-        mark(sent, rec);
-        None
+    fn begin(alloc: Global, session: &Session) -> Result<Table<bool>, AllocError> {
+        Table::no_marks(alloc, session.geometry().pages())
+    }
+
+    fn reason(session: &Session, sent: &Table<bool>, n: usize) -> Option<ShapeReason> {
+        source_reason(session, n, &session.source()[n], sent)
+    }
+
+    fn step(session: &Session, sent: &mut Table<bool>, n: usize) {
+        mark(sent, &session.source()[n]);
     }
 }
 
 impl Pass for LinkPass {
     type State = ();
 
-    type Reason = ShapeReason;
-
-    ghost count = { λ s. log_length s Link };
-
-    ghost reason = { λ s n. reason_at s (Link, n) };
+    ghost log = { Link };
 
     ghost IsAt = { λ s n u. Unit {0} };
 
-    fn judge(session: &Session, _nothing: &mut (), n: usize) -> Option<ShapeReason> {
+    fn begin(_alloc: Global, _session: &Session) -> Result<(), AllocError> {
+        Ok(())
+    }
+
+    fn reason(session: &Session, _nothing: &(), n: usize) -> Option<ShapeReason> {
         if !link_named(session, &session.link()[n]) {
             return Some(ShapeReason::Named);
         }
         None
     }
+
+    fn step(_session: &Session, _nothing: &mut (), _n: usize) {}
 }
 
 impl Pass for LanePass {
     type State = ();
 
-    type Reason = ShapeReason;
-
-    ghost count = { λ s. log_length s Lane };
-
-    ghost reason = { λ s n. reason_at s (Lane, n) };
+    ghost log = { Lane };
 
     ghost IsAt = { λ s n u. Unit {0} };
 
-    fn judge(session: &Session, _nothing: &mut (), n: usize) -> Option<ShapeReason> {
+    fn begin(_alloc: Global, _session: &Session) -> Result<(), AllocError> {
+        Ok(())
+    }
+
+    fn reason(session: &Session, _nothing: &(), n: usize) -> Option<ShapeReason> {
         if !lane_named(session, &session.lane()[n]) {
             return Some(ShapeReason::Named);
         }
         None
     }
+
+    fn step(_session: &Session, _nothing: &mut (), _n: usize) {}
 }
 
 /// Returns why pager record n does not have the right shape, if so.
@@ -206,64 +212,55 @@ fn pager_reason(session: &Session, n: usize, rec: &PagerRec) -> Option<ShapeReas
 impl Pass for PagerPass {
     type State = ();
 
-    type Reason = ShapeReason;
-
-    ghost count = { λ s. log_length s Pager };
-
-    ghost reason = { λ s n. reason_at s (Pager, n) };
+    ghost log = { Pager };
 
     ghost IsAt = { λ s n u. Unit {0} };
 
-    fn judge(session: &Session, _nothing: &mut (), n: usize) -> Option<ShapeReason> {
+    fn begin(_alloc: Global, _session: &Session) -> Result<(), AllocError> {
+        Ok(())
+    }
+
+    fn reason(session: &Session, _nothing: &(), n: usize) -> Option<ShapeReason> {
         pager_reason(session, n, &session.pager()[n])
     }
+
+    fn step(_session: &Session, _nothing: &mut (), _n: usize) {}
 }
 
-/// Returns the first fault of the guest's log.
-fn guest_fault(session: &Session) -> Option<Found<ShapeReason>>
-    requires { IsSession session.now }
-    ensures { MatchOption result (IsRightLog session.now Guest) (λ f. IsFirstOfLog session.now Guest f.place f.reason) }
-{
-    let mut phases = Phases {
-        halted: false,
-        resumed: false,
-    };
-    first_found::<GuestPass>(session, &mut phases, 0, session.guest().len())
-}
-
-/// Returns the first fault of the source's log.
-fn source_fault(alloc: Global, session: &Session) -> Result<Option<Found<ShapeReason>>, AllocError>
-    requires { IsSession session.now }
-    ensures { IfOk result (λ o. MatchOption o (IsRightLog session.now Source) (λ f. IsFirstOfLog session.now Source f.place f.reason)) }
-{
-    let mut sent = Table::no_marks(alloc, session.geometry().pages())?;
-    let fault = first_found::<SourcePass>(session, &mut sent, 0, session.source().len());
-    Ok(fault)
-}
-
-/// Returns the first fault of a log.
+/// Returns the first misshapen record of a log. Fails only if memory runs out.
 pub(crate) fn fault_of(
     alloc: Global,
     session: &Session,
     log: LogName,
-) -> Result<Option<Found<ShapeReason>>, AllocError>
+) -> Result<Option<ShapeFault>, AllocError>
     requires { IsSession session.now }
-    ensures { IfOk result (λ o. MatchOption o (IsRightLog session.now log) (λ f. IsFirstOfLog session.now log f.place f.reason)) }
+    ensures { IfOk result (λ found. MatchOption found (IsRightLog session.now log) (IsFirstOfLog session.now log)) }
 {
     match log {
-        LogName::Guest => Ok(guest_fault(session)),
-        LogName::Source => source_fault(alloc, session),
-        LogName::Link => {
-            let fault = first_found::<LinkPass>(session, &mut (), 0, session.link().len());
-            Ok(fault)
-        }
-        LogName::Lane => {
-            let fault = first_found::<LanePass>(session, &mut (), 0, session.lane().len());
-            Ok(fault)
-        }
-        LogName::Pager => {
-            let fault = first_found::<PagerPass>(session, &mut (), 0, session.pager().len());
-            Ok(fault)
-        }
+        LogName::Guest => first_found::<GuestPass>(alloc, session, log),
+        LogName::Source => first_found::<SourcePass>(alloc, session, log),
+        LogName::Link => first_found::<LinkPass>(alloc, session, log),
+        LogName::Lane => first_found::<LanePass>(alloc, session, log),
+        LogName::Pager => first_found::<PagerPass>(alloc, session, log),
+    }
+}
+
+/// Appends each misshapen record of a log. Fails only if memory runs out.
+pub(crate) fn push_faults_of(
+    alloc: Global,
+    session: &Session,
+    log: LogName,
+    found: &mut Vec<ShapeFault>,
+) -> Result<(), AllocError>
+    requires limits { IsSession session.now }
+    requires before { AreFaultsUpTo session.now log 0 found.old.items }
+    ensures { OnOk result (AreFaultsUpTo session.now log (log_length session.now log) found.new.items) }
+{
+    match log {
+        LogName::Guest => push_found::<GuestPass>(alloc, session, log, found),
+        LogName::Source => push_found::<SourcePass>(alloc, session, log, found),
+        LogName::Link => push_found::<LinkPass>(alloc, session, log, found),
+        LogName::Lane => push_found::<LanePass>(alloc, session, log, found),
+        LogName::Pager => push_found::<PagerPass>(alloc, session, log, found),
     }
 }

@@ -1,35 +1,14 @@
-//! The shape of a session: its first fault.
+//! The shape of a session: its first fault, and all its misshapen records.
 
 ghost use Rattle.std.specs.Prelude.{◌≡◌, MatchOption, IfOk};
-ghost use Rattle.migration_types.specs.Sessions.{IsSession, line_of};
 ghost use Rattle.audit_model.specs.Shape.{IsRightShape};
-ghost use Rattle.cert_check.specs.inner.FirstOfLog.{IsFirstOfLog};
+ghost use Rattle.cert_check.specs.ShapeFaults.{AreShapeFaults};
 ghost use Rattle.cert_check.specs.Verdicts.{IsShapeFault};
 
-use crate::log_passes::Found;
-use crate::passes::fault_of;
+use crate::passes::{fault_of, push_faults_of};
 use crate::verdict::ShapeFault;
-use audit_model::ShapeReason;
-use migration_types::{LogName, Session, line_of, logs};
+use migration_types::{Session, logs};
 use std::alloc::{AllocError, Global};
-
-/// Returns the fault of a log as a fault of the session.
-fn told(session: &Session, log: LogName, fault: Found<ShapeReason>) -> ShapeFault
-    requires limits { IsSession session.now }
-    requires first { IsFirstOfLog session.now log fault.place fault.reason }
-    ensures line { result.line ≡ line_of session.now (log, fault.place) }
-    ensures log { result.log ≡ log }
-    ensures place { result.place ≡ fault.place }
-    ensures reason { result.reason ≡ fault.reason }
-{
-    let place = fault.place as u32;
-    ShapeFault {
-        line: line_of(session, log, place),
-        log,
-        place,
-        reason: fault.reason,
-    }
-}
 
 /// Returns the fault of a session's shape with the least line, and then the least reason, or `None` if the shape is
 /// right. Makes one pass over each log, and allocates memory for a mark for each page. Fails only if memory runs out.
@@ -40,8 +19,22 @@ pub fn shape(alloc: Global, session: &Session) -> Result<Option<ShapeFault>, All
     for log in logs() {
         let found = fault_of(alloc, session, log)?;
         if let Some(fault) = found {
-            return Ok(Some(told(session, log, fault)));
+            return Ok(Some(fault));
         }
     }
     Ok(None)
+}
+
+/// Returns all misshapen records of a session in the order of their lines, each with the least of its reasons. The list
+/// is empty exactly if the shape is right, and begins with the fault that [`shape`] returns. Makes one pass over each
+/// log, and allocates memory for a mark for each page and for the list. Fails only if memory runs out.
+pub fn shape_faults(alloc: Global, session: &Session) -> Result<Vec<ShapeFault>, AllocError>
+    ensures { IfOk result (λ found. AreShapeFaults session.now found.items) }
+{
+    session.keeps_limits();
+    let mut found = Vec::new(alloc);
+    for log in logs() {
+        push_faults_of(alloc, session, log, &mut found)?;
+    }
+    Ok(found)
 }

@@ -25,7 +25,7 @@ pub use answer::{
 };
 pub use closing::Closable;
 pub use console::Console;
-pub use naming::{opened, read_named, read_pair};
+pub use naming::{read_named, read_pair};
 pub use noting::tell_note;
 pub use performing::{OnOne, OnTwo, perform_one, perform_two};
 pub use sessions::SessionTaker;

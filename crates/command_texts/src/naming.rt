@@ -1,6 +1,6 @@
 //! The texts under names.
 
-ghost use Rattle.std.specs.Prelude.{◌≡◌, ◌⊎◌, ◌&&◌, ℕ, List, Option, Some, false, IfOk, IfErr, IfSome};
+ghost use Rattle.std.specs.Prelude.{◌≡◌, ◌⊎◌, ◌&&◌, ℕ, List, Option, false, IfOk, IfErr};
 ghost use Rattle.command_texts.specs.Answers.{IsReadFault};
 ghost use Rattle.command_texts.specs.Reasons.{IsWhy, line_of};
 ghost use Rattle.command_texts.specs.Told.{AreNamed, AreOfInput, AreRead, IsNamed, is_dash};
@@ -49,18 +49,6 @@ fn unopened<'a>(name: &'a str, error: &io::Error) -> Fault<'a>
     ensures { IsReadFault (λ n. n ≡ name.entry.now) result }
 {
     fault_at(name, fault_of(error))
-}
-
-/// Opens the text under a name, or that of the session under a name that has no text of its own. The name must not be
-/// that of the input.
-pub fn opened<'a, S: TextSource>(texts: &S, name: &'a str) -> Result<S::Text, Fault<'a>>
-    ensures text { IfOk result (λ t. IfSome (S.bytes_of texts.now name.entry.now) (λ xs. S.Text.remaining t ≡ Some xs)) }
-    ensures fault { IfErr result (IsReadFault (λ n. n ≡ name.entry.now)) }
-{
-    match texts.session_text(name) {
-        Ok(text) => Ok(text),
-        Err(error) => Err(unopened(name, &error)),
-    }
 }
 
 // Reads the text under a name, which must not be that of the input. Returns what is found in it, and why it is refused,

@@ -4,8 +4,9 @@ ghost use Rattle.std.specs.Prelude.{◌≡◌, ℕ, List, IfOk};
 ghost use Rattle.std.specs.Thread.{IsSync};
 ghost use Rattle.text_lines.specs.Answer.{IsRead};
 ghost use Rattle.session_log.specs.Grammar.{SpellsSession};
-ghost use Rattle.audit_report.specs.Reports.{IsReport, ReportFits};
-ghost use Rattle.session_answers.specs.Forms.{ArePagesFor, Tells};
+ghost use Rattle.page_facts.specs.FaultyPages.{AreFaultyPages};
+ghost use Rattle.audit_report.specs.Reports.{IsReport, JudgesPages, ReportFits};
+ghost use Rattle.session_answers.specs.Forms.{AreListed, ArePagesFor, Tells};
 ghost use Rattle.session_answers.specs.Judged.{IsJudgedTold, report_status};
 ghost use Rattle.judge_commands.specs.Answers.{how_much};
 ghost use Rattle.judge_commands.specs.Completed.{IsAnswered};
@@ -18,9 +19,10 @@ use crate::noting::note_on;
 use audit_report::{FullAudit, OwnLines, Report, audit, audit_in_full};
 use command_texts::{Answer, Given, OnOne, REFUSED, SessionTaker, Telling, given, status_where};
 use migration_types::Session;
-use page_facts::InThreads;
+use page_facts::{FaultyPage, InThreads};
 use session_answers::{AnswerForm, Ask, print_refusal, print_told};
 use session_log::session_texts_are_unambiguous;
+use session_story::faulty_apart;
 use std::alloc::{AllocError, Global};
 use std::thread::Threads;
 
@@ -29,6 +31,22 @@ pub fn report_status(report: &Report) -> u8
     ensures { result ≡ report_status report.now }
 {
     status_where(matches!(report, Report::Clean(_)))
+}
+
+/// Returns the pages that a report lists, given those with a fault, or for a report of the shape any.
+fn listed(
+    alloc: Global,
+    session: &Session,
+    report: &Report,
+    pages: Vec<FaultyPage>,
+) -> Result<Vec<FaultyPage>, AllocError>
+    requires { JudgesPages report.now → AreFaultyPages session.now pages.items }
+    ensures { IfOk result (λ found. AreListed session.now report.now found.items) }
+{
+    match report {
+        Report::Shape(_) => faulty_apart(alloc, session),
+        Report::Knot { .. } | Report::Faulty { .. } | Report::Clean(_) => Ok(pages),
+    }
 }
 
 /// Returns the audit of a session that this form needs: with each page that has a fault if the form lists them, and
@@ -44,7 +62,9 @@ fn audited<R: Threads + Sync>(
     ensures pages { IfOk result (λ full. ArePagesFor form session.now full.report full.pages.items) }
 {
     if form.lists_pages() {
-        return audit_in_full(&InThreads { rt }, alloc, session);
+        let FullAudit { report, pages } = audit_in_full(&InThreads { rt }, alloc, session)?;
+        let pages = listed(alloc, session, &report, pages)?;
+        return Ok(FullAudit { report, pages });
     }
     let report = audit(rt, alloc, session)?;
     Ok(FullAudit {

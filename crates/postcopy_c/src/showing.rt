@@ -4,8 +4,8 @@ ghost use Rattle.std.specs.Prelude.{◌≡◌, ◌≢◌, length, IfOk};
 ghost use Rattle.std.specs.List.{AllZip, concat};
 ghost use Rattle.audit_model.specs.World.{IsSafe};
 ghost use Rattle.page_facts.specs.FaultyPages.{AreFaultyPages};
-ghost use Rattle.audit_report.specs.Reports.{IsCleanWith, IsReport, JudgesPages, ReportFits};
-ghost use Rattle.session_answers.specs.Forms.{Tells};
+ghost use Rattle.audit_report.specs.Reports.{IsCleanWith, IsReport, ReportFits};
+ghost use Rattle.session_answers.specs.Forms.{AreListed, Tells};
 ghost use Rattle.session_answers.specs.Judged.{Reported};
 ghost use Rattle.judged_texts.specs.Checked.{SpellsOneSession, OfSpelled};
 ghost use Rattle.judged_texts.specs.Audited.{HasReport, FindsClean, FindsFault, IsSafeExactlyIf, IsUnsafe};
@@ -27,6 +27,7 @@ use order_picture::print_picture_on;
 use page_facts::{FaultyPage, OneThread, clean_sessions_have_no_faulty_page, faulty_pages};
 use session_answers::{AnswerForm, LackForm, print_lack_of, print_refusal, print_told};
 use session_log::{read_session, session_texts_are_unambiguous};
+use session_story::faulty_apart;
 use std::alloc::{AllocError, Global};
 
 /// How a session is shown.
@@ -95,19 +96,20 @@ fn no_pages(alloc: Global, _session: &Session, _cert: &Cert) -> Vec<FaultyPage>
     Vec::new(alloc)
 }
 
-/// Returns the pages with a fault, if the report judges the pages, and otherwise none.
+/// Returns the pages that a report lists.
 fn pages_of(
     alloc: Global,
     session: &Session,
     report: &Report,
 ) -> Result<Vec<FaultyPage>, AllocError>
     requires { IsReport session.now report.now }
-    ensures { IfOk result (λ pages. JudgesPages report.now → AreFaultyPages session.now pages.items) }
+    ensures { IfOk result (λ pages. AreListed session.now report.now pages.items) }
 {
     match report {
         Report::Clean(cert) => Ok(no_pages(alloc, session, cert)),
         Report::Faulty { .. } => faulty_pages(&OneThread, alloc, session),
-        Report::Shape(_) | Report::Knot { .. } => Ok(Vec::new(alloc)),
+        Report::Shape(_) => faulty_apart(alloc, session),
+        Report::Knot { .. } => Ok(Vec::new(alloc)),
     }
 }
 

@@ -1,7 +1,6 @@
 //! The fields of a form, and the words that they allow.
 
-use crate::refused::WideWanted;
-use text_lines::read_decimal;
+use text_lines::{Wanted, read_decimal};
 
 /// The greatest number of pages, used if the machine's own is not known.
 const MOST_PAGES: u64 = 65_536;
@@ -100,27 +99,27 @@ fn up_to(most: u64) -> Bounds {
 }
 
 /// Returns the numbers that a field allows, if it is a field of numbers.
-pub(crate) fn range_of(field: FieldKind, wanted: &WideWanted) -> Option<Bounds> {
+pub(crate) fn range_of(field: FieldKind, wanted: &Wanted) -> Option<Bounds> {
     match field {
         FieldKind::Processor => Some(up_to(LAST_PROCESSOR)),
-        FieldKind::Page => Some(below(wanted.pages, MOST_PAGES)),
+        FieldKind::Page => Some(below(u64::from(wanted.pages), MOST_PAGES)),
         FieldKind::Cell => Some(below(u64::from(wanted.cells), MOST_CELLS)),
         FieldKind::Value => Some(up_to(u64::MAX)),
-        FieldKind::Record => Some(below(wanted.records, MOST_RECORDS)),
+        FieldKind::Record => Some(below(u64::from(wanted.records), MOST_RECORDS)),
         FieldKind::Number => Some(Bounds {
-            least: wanted.least,
-            most: wanted.most,
+            least: u64::from(wanted.least),
+            most: u64::from(wanted.most),
         }),
         FieldKind::Exact => Some(Bounds {
-            least: wanted.most,
-            most: wanted.most,
+            least: u64::from(wanted.most),
+            most: u64::from(wanted.most),
         }),
         FieldKind::Contents | FieldKind::Fates | FieldKind::Fate => None,
     }
 }
 
 /// Returns how many digits the contents of a page have, or `None` if the number of cells is not known.
-pub(crate) fn digits_of(wanted: &WideWanted) -> Option<u64> {
+pub(crate) fn digits_of(wanted: &Wanted) -> Option<u64> {
     if wanted.cells == 0 {
         return None;
     }
@@ -144,7 +143,7 @@ fn stop_at(found: Option<usize>) -> Option<Misfit> {
     }
 }
 
-fn misfit_of_contents(word: &[u8], wanted: &WideWanted) -> Option<Misfit> {
+fn misfit_of_contents(word: &[u8], wanted: &Wanted) -> Option<Misfit> {
     if begins_as_hexadecimal(word) {
         return Some(Misfit::Whole);
     }
@@ -183,7 +182,7 @@ fn misfit_of_number(word: &[u8], range: Bounds) -> Option<Misfit> {
 }
 
 /// Returns where a word stops being allowed in a field, or `None` if it is allowed.
-pub(crate) fn misfit_of(field: FieldKind, word: &[u8], wanted: &WideWanted) -> Option<Misfit> {
+pub(crate) fn misfit_of(field: FieldKind, word: &[u8], wanted: &Wanted) -> Option<Misfit> {
     if let Some(range) = range_of(field, wanted) {
         return misfit_of_number(word, range);
     }
@@ -194,7 +193,7 @@ pub(crate) fn misfit_of(field: FieldKind, word: &[u8], wanted: &WideWanted) -> O
     }
 }
 
-fn may_go_on_as_contents(word: &[u8], wanted: &WideWanted) -> bool {
+fn may_go_on_as_contents(word: &[u8], wanted: &Wanted) -> bool {
     let has_room = match digits_of(wanted) {
         Some(digits) => (word.len() as u64) < digits,
         None => true,
@@ -203,7 +202,7 @@ fn may_go_on_as_contents(word: &[u8], wanted: &WideWanted) -> bool {
 }
 
 /// Returns whether a word that does not fit a field may be the beginning of one that does.
-pub(crate) fn may_go_on(field: FieldKind, word: &[u8], wanted: &WideWanted) -> bool {
+pub(crate) fn may_go_on(field: FieldKind, word: &[u8], wanted: &Wanted) -> bool {
     match field {
         FieldKind::Contents => may_go_on_as_contents(word, wanted),
         FieldKind::Fate => FATES.iter().any(|fate| fate.starts_with(word)),

@@ -1,8 +1,9 @@
 //! The form that a line fits furthest, and where it departs from it.
 
 use crate::fields::{Misfit, field_of, has_field, may_go_on, misfit_of};
-use crate::refused::{Refused, WideWanted};
+use crate::refused::Refused;
 use memchr::memchr;
+use text_lines::Wanted;
 
 const SPACE: u8 = b' ';
 
@@ -81,7 +82,7 @@ pub(crate) fn first_word(text: &[u8]) -> (&[u8], Option<&[u8]>) {
 }
 
 /// Returns where a word stops being allowed at `slot` of a form, or `None` if it is allowed.
-fn misfit_at(slot: &str, word: &[u8], wanted: &WideWanted) -> Option<Misfit> {
+fn misfit_at(slot: &str, word: &[u8], wanted: &Wanted) -> Option<Misfit> {
     match field_of(slot) {
         Some(field) => misfit_of(field, word, wanted),
         None if word == slot.as_bytes() => None,
@@ -103,7 +104,7 @@ fn depth(misfit: Misfit) -> usize {
 }
 
 /// Returns whether a word may be the beginning of one that is allowed at `slot` of a form.
-fn is_front(slot: &str, word: &[u8], wanted: &WideWanted) -> bool {
+fn is_front(slot: &str, word: &[u8], wanted: &Wanted) -> bool {
     match field_of(slot) {
         Some(field) => may_go_on(field, word, wanted),
         None => slot.as_bytes().starts_with(word),

@@ -27,7 +27,7 @@ mod words;
 pub use hiding::{Escape, escape_of, is_hidden};
 pub use placing::push_at;
 pub use quoting::push_quote;
-pub use refused::{Misread, Refused, WideWanted};
+pub use refused::{Misread, Refused};
 pub use special::{RECORDERS_FILE, text_begun};
 
 /// Why a text is refused.

@@ -3,9 +3,10 @@
 use crate::fields::field_of;
 use crate::line_fault::{LineFault, place_of};
 use crate::quoting::{CUT, push_shown, width};
-use crate::refused::{Refused, WideWanted};
+use crate::refused::Refused;
 use crate::words::{push_meaning, push_new};
 use std::alloc::AllocError;
+use text_lines::Wanted;
 
 /// The greatest number of columns that a line's bytes take: 100 with what comes before them, and with the mark for what
 /// is left out.
@@ -97,7 +98,7 @@ fn push_forms(out: &mut String, forms: &[&'static str]) -> Result<(), AllocError
 }
 
 /// Appends the meaning of a field, on a line.
-fn push_field(out: &mut String, slot: &str, wanted: &WideWanted) -> Result<(), AllocError> {
+fn push_field(out: &mut String, slot: &str, wanted: &Wanted) -> Result<(), AllocError> {
     let Some(field) = field_of(slot) else {
         return Ok(());
     };
@@ -107,7 +108,7 @@ fn push_field(out: &mut String, slot: &str, wanted: &WideWanted) -> Result<(), A
 }
 
 /// Appends the meaning of each field of the forms.
-fn push_fields(out: &mut String, wanted: &WideWanted) -> Result<(), AllocError> {
+fn push_fields(out: &mut String, wanted: &Wanted) -> Result<(), AllocError> {
     let mut fields = Vec::new(*out.allocator());
     for form in wanted.forms {
         push_fields_of(&mut fields, form)?;

@@ -1,8 +1,7 @@
 //! Frequent slips in the writing of a word.
 
 use crate::fields::{FieldKind, begins_as_hexadecimal, range_of};
-use crate::refused::WideWanted;
-use text_lines::read_decimal;
+use text_lines::{Wanted, read_decimal};
 
 /// What is unusual about a word that does not fit.
 #[derive(Clone, Copy)]
@@ -70,12 +69,7 @@ pub(crate) fn slip_between(word: &[u8]) -> Option<Slip> {
 }
 
 /// Returns what is unusual about a word that does not fit a field of a form.
-pub(crate) fn slip_of(
-    form: &str,
-    field: FieldKind,
-    word: &[u8],
-    wanted: &WideWanted,
-) -> Option<Slip> {
+pub(crate) fn slip_of(form: &str, field: FieldKind, word: &[u8], wanted: &Wanted) -> Option<Slip> {
     if let Some(slip) = slip_between(word) {
         return Some(slip);
     }

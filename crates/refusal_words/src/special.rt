@@ -1,7 +1,8 @@
 //! Files that are no text of the wanted kind, and line ends of another kind.
 
 use crate::fitting::first_word;
-use crate::refused::{Refused, WideWanted};
+use crate::refused::Refused;
+use text_lines::Wanted;
 
 /// What a file is, or how its lines end, if that is why it is refused.
 #[derive(Clone, Copy)]
@@ -80,7 +81,7 @@ impl Kind {
     }
 
     /// Returns the kind of text whose first line is wanted.
-    fn wanted(wanted: &WideWanted) -> Option<Kind> {
+    fn wanted(wanted: &Wanted) -> Option<Kind> {
         let form = wanted.forms.first()?;
         Kind::of(form.as_bytes())
     }
@@ -167,7 +168,7 @@ fn output(line: &[u8], wanted: Kind) -> Option<Special> {
 }
 
 /// Returns whether a line begins with the first word of a form that is allowed there.
-fn begins_as_wanted(line: &[u8], wanted: &WideWanted) -> bool {
+fn begins_as_wanted(line: &[u8], wanted: &Wanted) -> bool {
     let (word, _) = first_word(line);
     wanted
         .forms

@@ -12,10 +12,12 @@ use Rattle.audit_report.specs.declared.report.Report.{Report}
 use Rattle.audit_report.specs.declared.report.Report.TheVariants as report
 use Rattle.session_story.specs.Explained.{IsExplanation}
 use Rattle.session_story.specs.Subjects.{page_of}
-use Rattle.session_story.specs.Topics.{IsFirstFaultStory, IsTold, IsToldOfItsPage, IsToldOfLine, IsToldOfPage, fault_in, fault_of_page, fault_reported, page_of_line}
+use Rattle.session_story.specs.Topics.{IsFirstFaultStory, IsTold, IsToldOfItsPage, IsToldOfLine, IsToldOfPage, apart_in, apart_story, fault_in, fault_of_page, fault_reported, page_of_line}
 use Rattle.session_story.specs.declared.explanations.Explanation.{Explanation}
 use Rattle.session_story.specs.declared.explanations.Explanation.TheVariants as explained
+use Rattle.session_story.specs.declared.fault_stories.ApartStory.{ApartStory}
 use Rattle.session_story.specs.declared.fault_stories.FaultStory.{FaultStory}
+use Rattle.session_story.specs.declared.fault_stories.ShapeStory.{ShapeStory}
 use Rattle.session_story.specs.declared.topic_stories.FullPageStory.{FullPageStory}
 use Rattle.session_story.specs.declared.topic_stories.LineStory.{LineStory}
 use Rattle.migration_types.specs.declared.topic.Topic.{Topic}
@@ -64,7 +66,7 @@ of_fault s (report.Shape fault) f more h = absurd h
 of_fault s (report.Knot left found) f more h = absurd h
 
 of_report : (s : Recorded) (r : Report) (e : Explanation) → IsExplanation s r e → IsFaultThere s (fault_reported e)
-of_report s r (explained.Shape t) h = tt
+of_report s r (explained.Shape t apart) h = tt
 of_report s r (explained.Knot knot) h = tt
 of_report s r (explained.Faulty f more) h = of_fault s r f more h
 of_report s r (explained.Clean counts) h = tt
@@ -80,3 +82,25 @@ fault_there s r (topic.Page number) (told.Line n t) h = absurd h
 fault_there s r (topic.Line line) (told.Report e) h = absurd h
 fault_there s r (topic.Line line) (told.Page n t) h = absurd h
 fault_there s r (topic.Line line) (told.Line n t) h = of_line s r line t h.1
+
+of_apart : (s : Recorded) (r : Report) (t : ShapeStory) (apart : Option ApartStory) → IsExplanation s r (explained.Shape t apart) → IsFaultThere s (apart_story apart)
+of_apart s r t None h = tt
+of_apart s (report.Shape fault) t (Some a) h = page_there s (a.story.fault.log, a.story.fault.place) a.story.page.page h.1.story.is_of
+of_apart s (report.Knot left found) t (Some a) h = absurd h
+of_apart s (report.Faulty line fault order many) t (Some a) h = absurd h
+of_apart s (report.Clean cert) t (Some a) h = absurd h
+
+-- and that of the first fault that misshapen records do not touch
+pub apart_there : (s : Recorded) (r : Report) (t : Topic) (story : TopicStory) → IsTold s r t story → IsFaultThere s (apart_in story)
+apart_there s r topic.Report (told.Report (explained.Shape t apart)) h = of_apart s r t apart h
+apart_there s r topic.Report (told.Report (explained.Knot knot)) h = tt
+apart_there s r topic.Report (told.Report (explained.Faulty f more)) h = tt
+apart_there s r topic.Report (told.Report (explained.Clean counts)) h = tt
+apart_there s r topic.Report (told.Page n t) h = tt
+apart_there s r topic.Report (told.Line n t) h = tt
+apart_there s r (topic.Page number) (told.Report e) h = absurd h
+apart_there s r (topic.Page number) (told.Page n t) h = tt
+apart_there s r (topic.Page number) (told.Line n t) h = tt
+apart_there s r (topic.Line line) (told.Report e) h = absurd h
+apart_there s r (topic.Line line) (told.Page n t) h = tt
+apart_there s r (topic.Line line) (told.Line n t) h = tt

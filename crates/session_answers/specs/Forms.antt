@@ -5,7 +5,7 @@ use Rattle.page_facts.specs.declared.faulty.FaultyPage.{FaultyPage}
 use Rattle.page_facts.specs.FaultyPages.{AreFaultyPages}
 use Rattle.audit_report.specs.declared.report.Report.{Report}
 use Rattle.audit_report.specs.FaultyPagesText.{all_faults_text}
-use Rattle.audit_report.specs.Reports.{JudgesPages}
+use Rattle.audit_report.specs.declared.report.Report.TheVariants as report
 use Rattle.audit_report.specs.RefusalText.{refusal_text}
 use Rattle.audit_report.specs.ToldLines.{own}
 use Rattle.session_answers.specs.JsonText.{all_faults_object, at_line, report_object}
@@ -13,6 +13,7 @@ use Rattle.judged_texts.specs.AuditedText.{wanted_text}
 use Rattle.judged_texts.specs.declared.audit_part.AuditPart.{AuditPart}
 use Rattle.session_answers.specs.TopicsText.{told_object}
 use Rattle.session_answers.specs.Told.{IsRefusedText, IsToldText}
+use Rattle.session_story.specs.Apart.{AreFaultyApart}
 use Rattle.session_story.specs.Topics.{IsTold}
 use Rattle.migration_types.specs.declared.topic.Topic.{Topic}
 use Rattle.session_story.specs.declared.topic_stories.TopicStory.{TopicStory}
@@ -49,10 +50,18 @@ TellsStory tell (story.Words topic) (Reported s report) text = IsToldText tell s
 TellsStory tell (story.Object topic) (Refused line) text = TellsRefusalObject (tell line) text
 TellsStory tell (story.Object topic) (Reported s report) text = TellsRecords tell s report topic text
 
--- the text that these words make of the pages with a fault, if the report judges the pages
+-- The pages that a report lists. If the shape is wrong, those with a fault that misshapen records do not touch; if there
+-- is no merging, it does not matter which; and otherwise those with a fault.
+abbrev pub AreListed : Recorded → Report → List FaultyPage → Type 0
+AreListed s (report.Shape fault) pages = AreFaultyApart s pages
+AreListed s (report.Knot left found) pages = Unit {0}
+AreListed s (report.Faulty line fault order many) pages = AreFaultyPages s pages
+AreListed s (report.Clean cert) pages = AreFaultyPages s pages
+
+-- the text that these words make of the pages that the report lists
 pub record TellsPages (words : List FaultyPage → List ℕ) (s : Recorded) (report : Report) (text : List ℕ) : Type 0 where
   pub pages : List FaultyPage
-  pub are_faulty : JudgesPages report → AreFaultyPages s pages
+  pub are_listed : AreListed s report pages
   pub is_text : text ≡ words pages
 
 -- lines, with each page that has a fault
@@ -71,9 +80,9 @@ lists_pages AllFaults = true
 lists_pages AllFaultsObject = true
 lists_pages other = false
 
--- these are the pages with a fault, if the form lists them and the report judges the pages
+-- these are the pages that the report lists, if the form lists them
 abbrev pub ArePagesFor : AnswerForm → Recorded → Report → List FaultyPage → Type 0
-ArePagesFor form s report pages = lists_pages form ≡ true → JudgesPages report → AreFaultyPages s pages
+ArePagesFor form s report pages = lists_pages form ≡ true → AreListed s report pages
 
 -- the text in this form, with the line numbers of the session's own text
 abbrev pub Tells : AnswerForm → Judged → List ℕ → Type 0

@@ -113,10 +113,15 @@ report_object s report = report_begun own s report ++ codes "}\n"
 unfoldable pub faulty_page : FaultyPage → List ℕ
 faulty_page f = opened (codes "page") f.fault.page ++ number (codes "line") f.line ++ word (codes "reason") (page_word f.fault.reason) ++ codes "}"
 
--- the pages with a fault, if the report judges the pages
+-- the pages with a fault, or nothing if there is no such page
+abbrev pub some_pages_told : List FaultyPage → List ℕ
+some_pages_told [] = []
+some_pages_told (page ∷ pages) = listed (codes "pages") faulty_page (page ∷ pages)
+
+-- the pages with a fault that a report lists
 abbrev pub pages_told : Report → List FaultyPage → List ℕ
 pages_told (report.Clean cert) pages = listed (codes "pages") faulty_page pages
-pages_told (report.Shape fault) pages = []
+pages_told (report.Shape fault) pages = some_pages_told pages
 pages_told (report.Knot left found) pages = []
 pages_told (report.Faulty line fault order many) pages = listed (codes "pages") faulty_page pages
 

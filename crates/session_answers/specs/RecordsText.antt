@@ -8,6 +8,7 @@ use Rattle.migration_types.specs.Sessions.{Recorded, line_of, log_length}
 use Rattle.session_story.specs.declared.explanations.Explanation.{Explanation}
 use Rattle.session_story.specs.declared.explanations.Explanation.TheVariants as story
 use Rattle.session_story.specs.declared.fault_stories.FaultStory.{FaultStory}
+use Rattle.session_story.specs.declared.fault_stories.ApartStory.{ApartStory}
 use Rattle.session_story.specs.declared.fault_stories.ShapeStory.{ShapeStory}
 use Rattle.session_story.specs.declared.pages.Handover.{Handover}
 use Rattle.session_story.specs.declared.pages.PageStory.{PageStory}
@@ -70,9 +71,14 @@ shape_parts t = part role.Faulty t.fault.log (Some t.fault.place) ∷ part role.
 abbrev pub waiting_parts : List Waiting → List Part
 waiting_parts waits = map (λ w. part role.Waits w.log (Some w.place)) waits
 
+-- the first fault that misshapen records do not touch, and its page's story, if there is one
+abbrev pub apart_parts : Option ApartStory → List Part
+apart_parts None = []
+apart_parts (Some t) = fault_parts t.story
+
 -- the story of the report
 abbrev pub report_parts : Explanation → List Part
-report_parts (story.Shape t) = shape_parts t
+report_parts (story.Shape t apart) = shape_parts t ++ apart_parts apart
 report_parts (story.Knot knot) = waiting_parts knot.waits.items
 report_parts (story.Faulty f more) = fault_parts f
 report_parts (story.Clean counts) = []

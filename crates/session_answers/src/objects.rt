@@ -2,7 +2,7 @@
 
 ghost use Rattle.std.specs.Prelude.{◌≡◌, ◌++◌, codes, OnOk};
 ghost use Rattle.completeness.specs.Complete.{IsFirstMissing};
-ghost use Rattle.session_answers.specs.JsonText.{all_faults_object, at_line, begun, fault_told, missing_object, missing_told, number, pages_told, record_at, report_begun, report_object, shape_object, shape_told, table_object, verdict_object, word};
+ghost use Rattle.session_answers.specs.JsonText.{all_faults_object, at_line, begun, fault_told, missing_object, missing_told, number, pages_told, record_at, report_begun, report_object, shape_object, shape_told, some_pages_told, table_object, verdict_object, word};
 ghost use Rattle.session_answers.specs.TopicsText.{IsStory, told_object};
 
 use crate::causes::push_cause;
@@ -12,7 +12,7 @@ use crate::fields::{
 use crate::kinds::push_faults;
 use crate::lists::{push_list_under, push_runs};
 use crate::records::records_of;
-use crate::topics::push_topic;
+use crate::topics::{push_apart, push_topic};
 use audit_report::{Lines, OwnLines, Report, line_of_taken};
 use cert_check::{ShapeFault, Verdict};
 use completeness::Lack;
@@ -121,19 +121,30 @@ pub fn push_report(out: &mut Vec<u8>, session: &Session, report: &Report) -> Res
     end(out)
 }
 
-/// Appends the pages with a fault, if the report judges the pages.
+/// Appends the pages with a fault, or nothing if there is no such page.
+fn push_some_pages(out: &mut Vec<u8>, pages: &[FaultyPage]) -> Result<(), AllocError>
+    ensures { OnOk result (out.new.items ≡ out.old.items ++ some_pages_told pages.now) }
+{
+    match pages {
+        [] => Ok(()),
+        _ => push_list_under(out, b"pages", pages),
+    }
+}
+
+/// Appends the pages with a fault that a report lists.
 fn push_pages(out: &mut Vec<u8>, report: &Report, pages: &[FaultyPage]) -> Result<(), AllocError>
     ensures { OnOk result (out.new.items ≡ out.old.items ++ pages_told report.now pages.now) }
 {
     match report {
         Report::Clean(_) | Report::Faulty { .. } => push_list_under(out, b"pages", pages),
-        Report::Shape(_) | Report::Knot { .. } => Ok(()),
+        Report::Shape(_) => push_some_pages(out, pages),
+        Report::Knot { .. } => Ok(()),
     }
 }
 
 /// Appends the object of the report on a session that lists each page with a fault: that of the report, with these
-/// pages if it is clean or faulty. No page is listed for a session that does not have the right shape, or has no
-/// merging. Fails only if memory runs out.
+/// pages if it is clean or faulty, or if it is of the shape and there are any. No page is listed for a session that has
+/// no merging. Fails only if memory runs out.
 pub fn push_all_faults(
     out: &mut Vec<u8>,
     session: &Session,
@@ -147,10 +158,11 @@ pub fn push_all_faults(
     end(out)
 }
 
-/// Appends the object of the report on a session with the story on a topic: the topic, unless it is the report, the
-/// cause of the fault of a page that the story tells, all faults by kind of the page that it is about, and the records of
-/// the story, each with its role. Line numbers are from `lines`. Of the report, these are the records that led to what it
-/// names, and for a clean session none. Of a page, they are the record of its first fault, if it has one, and those of
+/// Appends the object of the report on a session with the story on a topic: the topic, unless it is the report, for a
+/// report of the shape the first fault that misshapen records do not touch, if there is one, the cause of the fault of a
+/// page that the story tells, all faults by kind of the page that it is about, and the records of the story, each with
+/// its role. Line numbers are from `lines`. Of the report, these are the records that led to what it names, and for a
+/// clean session none. Of a page, they are the record of its first fault, if it has one, and those of
 /// the page's story. Of a line, they are its record and those of the page that this is about. Fails only if memory runs
 /// out.
 pub fn push_told<L: Lines>(
@@ -167,6 +179,7 @@ pub fn push_told<L: Lines>(
     let records = records_of(alloc, session, lines, told)?;
     begin_report(out, lines, session, report)?;
     push_topic(out, lines, session, told)?;
+    push_apart(out, lines, session, &told.apart())?;
     push_cause(out, lines, session, cause_of(told))?;
     push_faults(alloc, out, lines, session, &told.page())?;
     push_list_under(out, b"records", &records)?;

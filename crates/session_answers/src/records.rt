@@ -2,15 +2,15 @@
 
 ghost use Rattle.std.specs.Prelude.{◌≡◌, ◌++◌, List, Some, IfOk, OnOk};
 ghost use Rattle.std.specs.List.{flat_map};
-ghost use Rattle.session_answers.specs.RecordsText.{fault_parts, faulty_part, full_parts, line_parts, page_parts, parts_in, parts_of, records_of, report_parts, role_word, shape_parts, told, told_at, told_record, waiting_parts};
+ghost use Rattle.session_answers.specs.RecordsText.{apart_parts, fault_parts, faulty_part, full_parts, line_parts, page_parts, parts_in, parts_of, records_of, report_parts, role_word, shape_parts, told, told_at, told_record, waiting_parts};
 
 use crate::fields::{push_number_under, push_word_under};
 use crate::lists::Item;
 use audit_report::Lines;
 use migration_types::{LogName, Session};
 use session_story::{
-    Explanation, FaultStory, FullPageStory, Handover, LineStory, PageStory, ShapeStory, TopicStory,
-    Waiting, line_at, resumed_by,
+    ApartStory, Explanation, FaultStory, FullPageStory, Handover, LineStory, PageStory, ShapeStory,
+    TopicStory, Waiting, line_at, resumed_by,
 };
 use std::alloc::{AllocError, Global};
 
@@ -197,12 +197,25 @@ fn push_waits(parts: &mut Vec<Part>, waits: &[Waiting]) -> Result<(), AllocError
     Ok(())
 }
 
+/// Adds the parts of the first fault that misshapen records do not touch, and of its page, if there is one.
+fn push_apart(parts: &mut Vec<Part>, apart: &Option<ApartStory>) -> Result<(), AllocError>
+    ensures { OnOk result (parts.new.items ≡ parts.old.items ++ apart_parts apart.now) }
+{
+    match apart {
+        Some(told) => push_fault(parts, &told.story),
+        None => Ok(()),
+    }
+}
+
 /// Adds the parts of the story of the report.
 fn push_report(parts: &mut Vec<Part>, explanation: &Explanation) -> Result<(), AllocError>
     ensures { OnOk result (parts.new.items ≡ parts.old.items ++ report_parts explanation.now) }
 {
     match explanation {
-        Explanation::Shape(story) => story.push(parts),
+        Explanation::Shape { story, apart } => {
+            story.push(parts)?;
+            push_apart(parts, apart)
+        }
         Explanation::Knot(knot) => push_waits(parts, &knot.waits),
         Explanation::Faulty { story, .. } => push_fault(parts, story),
         Explanation::Clean(_) => Ok(()),

@@ -1,10 +1,9 @@
 //! The report on a session, written in a form.
 
 ghost use Rattle.std.specs.Prelude.{IfOk};
-ghost use Rattle.page_facts.specs.FaultyPages.{AreFaultyPages};
-ghost use Rattle.audit_report.specs.Reports.{IsReport, JudgesPages, ReportFits};
+ghost use Rattle.audit_report.specs.Reports.{IsReport, ReportFits};
 ghost use Rattle.session_answers.specs.Judged.{Refused, Reported};
-ghost use Rattle.session_answers.specs.Forms.{ArePagesFor, Tells, TellsAllFaults, TellsAllFaultsObject, TellsObject};
+ghost use Rattle.session_answers.specs.Forms.{AreListed, ArePagesFor, Tells, TellsAllFaults, TellsAllFaultsObject, TellsObject};
 
 use crate::forms::AnswerForm;
 use crate::stories::{object_of_refusal, print_story, print_story_refusal};
@@ -22,7 +21,7 @@ fn all_faults(
     report: &Report,
     pages: &[FaultyPage],
 ) -> Result<Vec<u8>, AllocError>
-    requires { JudgesPages report.now → AreFaultyPages _session.now pages.now }
+    requires { AreListed _session.now report.now pages.now }
     ensures { IfOk result (λ text. TellsAllFaults (Reported _session.now report.now) text.items) }
 {
     print_all_faults(alloc, report, pages)
@@ -44,7 +43,7 @@ fn all_faults_object(
     report: &Report,
     pages: &[FaultyPage],
 ) -> Result<Vec<u8>, AllocError>
-    requires { JudgesPages report.now → AreFaultyPages session.now pages.now }
+    requires { AreListed session.now report.now pages.now }
     ensures { IfOk result (λ text. TellsAllFaultsObject (Reported session.now report.now) text.items) }
 {
     let mut object = Vec::new(alloc);

@@ -3,15 +3,34 @@
 ghost use Rattle.std.specs.Prelude.{◌≡◌, ◌++◌, ◌<◌, OnOk};
 ghost use Rattle.migration_types.specs.Sessions.{log_length};
 ghost use Rattle.session_story.specs.Topics.{fault_in, fault_of_page, page_of_line};
-ghost use Rattle.session_answers.specs.TopicsText.{fault_of, first_fault, its_page, line_topic, page_topic, topic_of};
+ghost use Rattle.session_answers.specs.TopicsText.{apart_told, fault_begun, fault_of, first_fault, its_page, line_topic, page_topic, topic_of};
 ghost use Rattle.session_answers.specs.inner.Faults.{IsFaultThere};
 
+use crate::causes::push_cause;
 use crate::fields::{open, push_number_under, push_record_in, push_word_under};
 use audit_report::Lines;
 use migration_types::{Session, line_of};
 use page_facts::PageFault;
-use session_story::{FaultStory, FullPageStory, LineStory, TopicStory};
+use session_story::{FaultStory, FullPageStory, LineStory, TopicStory, cause_by};
 use std::alloc::AllocError;
+
+/// Appends the first fault of a page, without its end.
+#[tactic(auto, unfolding(crate::specs::TopicsText::fault_begun))]
+fn begin_fault<L: Lines>(
+    out: &mut Vec<u8>,
+    lines: &L,
+    session: &Session,
+    fault: &PageFault,
+) -> Result<(), AllocError>
+    requires { fault.now.place < log_length session.now fault.now.log }
+    ensures { OnOk result (out.new.items ≡ out.old.items ++ fault_begun (L.tell lines.now) session.now fault.now) }
+{
+    let line = line_of(session, fault.log, fault.place);
+    out.extend_from_slice(b",\"fault\":")?;
+    open(out, b"line", lines.line(line))?;
+    push_record_in(out, fault.log, fault.place)?;
+    push_word_under(out, b"reason", fault.reason.word())
+}
 
 /// Appends the first fault of a page.
 #[tactic(auto, unfolding(crate::specs::TopicsText::fault_of))]
@@ -24,12 +43,30 @@ fn push_fault<L: Lines>(
     requires { fault.now.place < log_length session.now fault.now.log }
     ensures { OnOk result (out.new.items ≡ out.old.items ++ fault_of (L.tell lines.now) session.now fault.now) }
 {
-    let line = line_of(session, fault.log, fault.place);
-    out.extend_from_slice(b",\"fault\":")?;
-    open(out, b"line", lines.line(line))?;
-    push_record_in(out, fault.log, fault.place)?;
-    push_word_under(out, b"reason", fault.reason.word())?;
+    begin_fault(out, lines, session, fault)?;
     out.extend_from_slice(b"}")
+}
+
+/// Appends the first fault that misshapen records do not touch, if there is one, with its page and its cause.
+#[tactic(auto, unfolding(crate::specs::TopicsText::apart_told))]
+pub(crate) fn push_apart<L: Lines>(
+    out: &mut Vec<u8>,
+    lines: &L,
+    session: &Session,
+    apart: &Option<FaultStory>,
+) -> Result<(), AllocError>
+    requires { IsFaultThere session.now apart.now }
+    ensures { OnOk result (out.new.items ≡ out.old.items ++ apart_told (L.tell lines.now) session.now apart.now) }
+{
+    match apart {
+        Some(story) => {
+            begin_fault(out, lines, session, &story.fault)?;
+            push_number_under(out, b"page", u64::from(story.page.page.number()))?;
+            out.extend_from_slice(b"}")?;
+            push_cause(out, lines, session, Some(cause_by(story)))
+        }
+        None => Ok(()),
+    }
 }
 
 /// Appends the first fault of a page, if it has one.

@@ -6,6 +6,7 @@ pub mod Delivered
 pub mod Losses
 pub mod Looking
 pub mod Reaching
+pub mod Untouched
 pub mod Setting
 pub mod Absent
 pub mod Givers
@@ -21,3 +22,4 @@ pub mod AbsentIn
 pub mod RightOrGiven
 pub mod Shown
 pub mod Unexplained
+pub mod ApartWindows

@@ -84,5 +84,5 @@ concerned_in (Some story) = concerned_by story
 
 -- the record that the story tells besides the faulty one, because the fault concerns it
 abbrev pub concerned_of : Recorded → TopicStory → Option Name
-concerned_of s (told.Report (explained.Shape story)) = shape_concerned_by s story
+concerned_of s (told.Report (explained.Shape story apart)) = shape_concerned_by s story
 concerned_of s t = concerned_in (fault_in t)

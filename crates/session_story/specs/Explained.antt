@@ -1,5 +1,6 @@
 -- The story of the report on a session.
-use Rattle.std.specs.Prelude.{◌≡◌, ◌≢◌, ◌⊎◌, ℕ, ◌+◌, ◌<◌, Bool, true, false, not, ◌&&◌, nat_le, is_some, Decides, List, length, MatchOption, Option, Some, None, slice_get, slice_index}
+use Rattle.std.specs.Prelude.{◌≡◌, ◌≢◌, ◌⊎◌, ℕ, ◌+◌, ◌<◌, ◌≤◌, Bool, true, false, not, ◌&&◌, nat_le, is_some, if◌then◌else◌, Decides, List, [], Contains, length, MatchOption, Option, Some, None, slice_get, slice_index}
+use Rattle.std.specs.List.{All}
 use Rattle.migration_types.specs.declared.records.LogName.{LogName}
 use Rattle.migration_types.specs.declared.records.LogName.TheVariants.{Guest, Source}
 use Rattle.migration_types.specs.declared.records.GuestRec.TheVariants.{Read}
@@ -16,6 +17,7 @@ use Rattle.audit_model.specs.Laws.{BreaksAt, UnplacedBefore}
 use Rattle.audit_model.specs.Mergings.{IsMerging}
 use Rattle.audit_model.specs.Shape.{IsRightShape, is_send_of, is_placement_of, passes}
 use Rattle.page_facts.specs.FaultyPages.{AreManyFaulty}
+use Rattle.page_facts.specs.declared.faulty.FaultyPage.{FaultyPage}
 use Rattle.page_facts.specs.declared.findings.Findings.{Findings}
 use Rattle.page_facts.specs.declared.page_fault.PageFault.{PageFault}
 use Rattle.page_facts.specs.Judged.{is_late_touch, releases_at}
@@ -23,6 +25,7 @@ use Rattle.page_facts.specs.PageFaults.{page_at}
 use Rattle.page_facts.specs.Tables.{first_before}
 use Rattle.audit_report.specs.declared.report.Report.{Report}
 use Rattle.audit_report.specs.declared.report.Report.TheVariants as report
+use Rattle.session_story.specs.Apart.{AreFaultyApart}
 use Rattle.session_story.specs.Pages.{IsHandover, IsPageStory, sent_before}
 use Rattle.session_story.specs.Values.{IsInstead, IsOther, IsOtherAtHalt}
 use Rattle.session_story.specs.Giving.{IsGiver, MayFollow}
@@ -39,6 +42,7 @@ use Rattle.session_story.specs.declared.fault_stories.Detail.TheVariants.{Instea
 use Rattle.session_story.specs.declared.fault_stories.PageCause.{PageCause}
 use Rattle.session_story.specs.declared.fault_stories.PageCause.TheVariants.{Sent, Placed, Zeroed, Again, Over as PlacedOver, Early as UsedEarly, Unplaced, Lost, Unrecorded}
 use Rattle.session_story.specs.declared.fault_stories.FaultStory.{FaultStory}
+use Rattle.session_story.specs.declared.fault_stories.ApartStory.{ApartStory}
 use Rattle.session_story.specs.declared.fault_stories.ShapeStory.{ShapeStory}
 use Rattle.session_story.specs.declared.explanations.Explanation.{Explanation}
 use Rattle.session_story.specs.declared.explanations.Explanation.TheVariants as told
@@ -234,9 +238,30 @@ pub record IsShapeStory (s : Recorded) (fault : ShapeFault) (t : ShapeStory) : T
   pub handover : IsHandover s t.handover
   pub sent : t.sent ≡ sent_before s (fault.log, fault.place)
 
+-- the page whose fault has the lesser line, or the first if the lines are the same
+abbrev pub lesser : Option FaultyPage → FaultyPage → FaultyPage
+lesser None page = page
+lesser (Some one) page = if nat_le one.line page.line then one else page
+
+-- of these pages with a fault, the one whose fault has the least line
+pub record IsLeastOf (found : List FaultyPage) (f : FaultyPage) : Type 0 where
+  pub is_among : Contains found f
+  pub is_least : All (λ other. f.line ≤ other.line) found
+
+-- Of the faulty pages that misshapen records do not touch, the story of the one whose fault has the least line, and how
+-- many others there are.
+pub record IsApartStory (s : Recorded) (t : ApartStory) : Type 0 where
+  pub found : List FaultyPage
+  pub are_apart : AreFaultyApart s found
+  pub first : FaultyPage
+  pub is_first : IsLeastOf found first
+  pub is_fault : t.story.fault ≡ first.fault
+  pub story : IsFaultStory s t.story
+  pub many : length found ≡ t.more + 1
+
 -- the story of a session with this report
 abbrev pub IsExplanation : Recorded → Report → Explanation → Type 0
-IsExplanation s (report.Shape fault) (told.Shape story) = IsShapeStory s fault story
+IsExplanation s (report.Shape fault) (told.Shape story apart) = IsShapeStory s fault story × MatchOption apart (AreFaultyApart s []) (IsApartStory s)
 IsExplanation s (report.Knot left found) (told.Knot knot) = IsCircle s knot
 IsExplanation s (report.Faulty line fault order many) (told.Faulty story more) = IsReportedStory s line fault story × AreMoreFaulty s more
 IsExplanation s (report.Clean cert) (told.Clean counts) = IsCounts s cert.entries counts

@@ -8,6 +8,7 @@ pub mod Giving
 pub mod Losing
 pub mod Counted
 pub mod Subjects
+pub mod Apart
 pub mod RecordValues
 pub mod Waits
 pub mod Kinds

@@ -1,5 +1,5 @@
 -- What a record is about: a page, or what another record is about.
-use Rattle.std.specs.Prelude.{ℕ, zero, suc, List, [], ◌∷◌, Option, Some, None, slice_get}
+use Rattle.std.specs.Prelude.{ℕ, zero, suc, Option, Some, None, slice_get}
 use Rattle.migration_types.specs.declared.records.LogName.TheVariants.{Guest, Source, Link, Lane, Pager}
 use Rattle.migration_types.specs.declared.records.GuestRec.{GuestRec}
 use Rattle.migration_types.specs.declared.records.GuestRec.TheVariants.{Read, Write, Release, Miss, Halt, Resume, See}
@@ -13,9 +13,6 @@ use Rattle.migration_types.specs.declared.records.PagerRec.{PagerRec}
 use Rattle.migration_types.specs.declared.records.PagerRec.TheVariants.{Got, Pull, Ready, Fault, Join, Want, Place, Zero, Skip, All}
 use Rattle.migration_types.specs.Receipts.{Name}
 use Rattle.migration_types.specs.Sessions.{Recorded}
-use Rattle.migration_types.specs.declared.rows.Field.{Field}
-use Rattle.migration_types.specs.declared.rows.Field.TheVariants as field
-use Rattle.migration_types.specs.Rows.{Consists}
 use Rattle.session_story.specs.declared.subjects.About.{About}
 use Rattle.session_story.specs.declared.subjects.About.TheVariants.{Page, Record, Nothing}
 
@@ -70,20 +67,6 @@ about s (Source, n) = about_in source_about (slice_get s.source n)
 about s (Link, n) = about_in link_about (slice_get s.link n)
 about s (Lane, n) = about_in lane_about (slice_get s.lane n)
 about s (Pager, n) = about_in pager_about (slice_get s.pager n)
-
--- what fields are about: the first page, or the first record that is not of the handover
-abbrev pub about_among : List Field → About
-about_among [] = Nothing
-about_among (field.Page page ∷ fields) = Page page
-about_among (field.Number log n ∷ fields) = Record log n
-about_among (field.Handover log n ∷ fields) = about_among fields
-about_among (field.Vcpu n ∷ fields) = about_among fields
-about_among (field.Cell n ∷ fields) = about_among fields
-about_among (field.Value n ∷ fields) = about_among fields
-
-abbrev pub about_by : Option Consists → About
-about_by None = Nothing
-about_by (Some row) = about_among row.fields
 
 abbrev pub page_by : (Name → Option ℕ) → About → Option ℕ
 page_by next (Page page) = Some page

@@ -12,6 +12,7 @@ use Rattle.session_story.specs.Subjects.{page_of}
 use Rattle.session_story.specs.declared.explanations.Explanation.{Explanation}
 use Rattle.session_story.specs.declared.explanations.Explanation.TheVariants as explained
 use Rattle.session_story.specs.declared.fault_stories.FaultStory.{FaultStory}
+use Rattle.session_story.specs.declared.fault_stories.ApartStory.{ApartStory}
 use Rattle.session_story.specs.declared.fault_stories.ShapeStory.{ShapeStory}
 use Rattle.session_story.specs.declared.topic_stories.LineStory.{LineStory}
 use Rattle.session_story.specs.declared.topic_stories.FullPageStory.{FullPageStory}
@@ -90,3 +91,12 @@ abbrev pub fault_in : TopicStory → Option FaultStory
 fault_in (told.Report explanation) = fault_reported explanation
 fault_in (told.Page number t) = fault_of_page t
 fault_in (told.Line line t) = fault_of_page (page_of_line t)
+
+-- the story of the first fault that misshapen records do not touch, if the story is of the shape and there is such a fault
+abbrev pub apart_story : Option ApartStory → Option FaultStory
+apart_story None = None
+apart_story (Some t) = Some t.story
+
+abbrev pub apart_in : TopicStory → Option FaultStory
+apart_in (told.Report (explained.Shape story apart)) = apart_story apart
+apart_in t = None

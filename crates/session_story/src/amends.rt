@@ -184,6 +184,6 @@ pub fn is_always_wrong(told: &Explanation) -> bool
 {
     match told {
         Explanation::Faulty { story, .. } => story.in_every_order,
-        Explanation::Shape(_) | Explanation::Knot(_) | Explanation::Clean(_) => false,
+        Explanation::Shape { .. } | Explanation::Knot(_) | Explanation::Clean(_) => false,
     }
 }

@@ -77,7 +77,7 @@ fn concerned_in(fault: &Option<FaultStory>) -> Option<Name>
 pub fn concerned_of(session: &Session, told: &TopicStory) -> Option<(LogName, u32)>
     ensures { result ≡ concerned_of session.now told.now }
 {
-    if let TopicStory::Report(Explanation::Shape(story)) = told {
+    if let TopicStory::Report(Explanation::Shape { story, .. }) = told {
         return shape_concerned_by(session, story);
     }
     concerned_in(&told.fault())

@@ -1,18 +1,19 @@
 //! The story of a report.
 
-ghost use Rattle.std.specs.Prelude.{◌≡◌, IfOk};
+ghost use Rattle.std.specs.Prelude.{◌≡◌, [], IfOk, MatchOption};
 ghost use Rattle.audit_model.specs.FirstFault.{IsFirstPageFault};
 ghost use Rattle.page_facts.specs.FaultyPages.{AreManyFaulty};
 ghost use Rattle.audit_report.specs.Reports.{IsReport};
+ghost use Rattle.session_story.specs.Apart.{AreFaultyApart};
 ghost use Rattle.session_story.specs.Counted.{IsCounts};
-ghost use Rattle.session_story.specs.Explained.{AreMoreFaulty, IsExplanation};
+ghost use Rattle.session_story.specs.Explained.{AreMoreFaulty, IsApartStory, IsExplanation, IsLeastOf, lesser};
 
 use crate::faults::{fault_at, shape_at};
 use crate::waits::circle_of;
-use crate::{Counts, Explanation, counts_of};
+use crate::{ApartStory, Counts, Explanation, counts_of, faulty_apart};
 use audit_report::Report;
 use migration_types::{Cert, Session};
-use page_facts::PageFault;
+use page_facts::{FaultyPage, PageFault};
 use std::alloc::{AllocError, Global};
 
 /// Returns the counts of a clean session.
@@ -33,6 +34,47 @@ fn more_faulty(session: &Session, fault: &PageFault, pages: usize) -> usize
     pages - 1
 }
 
+/// Returns the page whose fault has the lesser line.
+fn lesser(least: Option<FaultyPage>, page: FaultyPage) -> FaultyPage
+    ensures { result ≡ lesser least page }
+{
+    match least {
+        Some(one) if one.line <= page.line => one,
+        _ => page,
+    }
+}
+
+/// Returns the page whose fault has the least line, if there is one.
+fn least_of(found: &[FaultyPage]) -> Option<FaultyPage>
+    ensures { MatchOption result (found.now ≡ []) (IsLeastOf found.now) }
+{
+    let mut least: Option<FaultyPage> = None;
+    for page in found {
+        least = Some(lesser(least, *page));
+    }
+    least
+}
+
+/// Returns the story of the faulty pages that misshapen records do not touch, if there are any.
+fn told_apart(
+    alloc: Global,
+    session: &Session,
+    report: &Report,
+) -> Result<Option<ApartStory>, AllocError>
+    requires { IsReport session.now report.now }
+    ensures { IfOk result (λ apart. MatchOption apart (AreFaultyApart session.now []) (IsApartStory session.now)) }
+{
+    let found = faulty_apart(alloc, session)?;
+    match least_of(&found) {
+        Some(first) => {
+            let story = fault_at(alloc, session, report, &first.fault)?;
+            let more = found.len() - 1;
+            Ok(Some(ApartStory { story, more }))
+        }
+        None => Ok(None),
+    }
+}
+
 /// Returns the story of the report on a session. Makes a few passes over each log, and allocates as much memory as an
 /// audit does, and for one more page. Fails only if memory runs out.
 pub fn explain(alloc: Global, session: &Session, report: &Report) -> Result<Explanation, AllocError>
@@ -40,7 +82,11 @@ pub fn explain(alloc: Global, session: &Session, report: &Report) -> Result<Expl
     ensures { IfOk result (IsExplanation session.now report.now) }
 {
     match report {
-        Report::Shape(fault) => Ok(Explanation::Shape(shape_at(session, fault))),
+        Report::Shape(fault) => {
+            let apart = told_apart(alloc, session, report)?;
+            let story = shape_at(session, fault);
+            Ok(Explanation::Shape { story, apart })
+        }
         Report::Knot { left, found } => {
             Ok(Explanation::Knot(circle_of(alloc, session, left, found)?))
         }

@@ -79,6 +79,14 @@ pub struct FaultStory {
     pub in_every_order: bool,
 }
 
+/// The story of the faulty page that misshapen records do not touch whose fault has the least line.
+#[derive(Clone, Copy)]
+pub struct ApartStory {
+    pub story: FaultStory,
+    /// How many other pages that misshapen records do not touch have a fault too.
+    pub more: usize,
+}
+
 /// The first record that does not have the right shape.
 #[derive(Clone, Copy)]
 pub struct ShapeStory {

@@ -1,16 +1,15 @@
 //! The story of a faulty record: one with a fault of its page, or one that does not have the right shape.
 
 ghost use Rattle.std.specs.Prelude.{◌≡◌, ◌<◌, ℕ, IfOk, MatchOption, Some, length, slice_get, true};
-ghost use Rattle.migration_types.specs.Sessions.{log_length, line_of};
+ghost use Rattle.migration_types.specs.Sessions.{log_length};
 ghost use Rattle.audit_model.specs.Faults.{IsPageFault};
 ghost use Rattle.audit_model.specs.Shape.{passes};
-ghost use Rattle.audit_model.specs.FirstFault.{IsFirstPageFault};
 ghost use Rattle.page_facts.specs.PageFaults.{page_at, HasItsPage};
 ghost use Rattle.audit_report.specs.Reports.{IsReport};
 ghost use Rattle.cert_check.specs.Verdicts.{IsShapeFault};
 ghost use Rattle.session_story.specs.Pages.{IsPageStory};
 ghost use Rattle.session_story.specs.Giving.{IsGiver};
-ghost use Rattle.session_story.specs.Explained.{IsExplained, IsFaultStory, IsGivenRight, IsGivenWrong, IsLeft, IsLookBeforeTouch, IsMissing, IsReportedStory, IsSentRight, IsShapeStory, IsToldCause, IsUnexplained, IsWrong, IsWrongSend, first_placement, is_read, is_unplaced, is_zero};
+ghost use Rattle.session_story.specs.Explained.{IsExplained, IsFaultStory, IsGivenRight, IsGivenWrong, IsLeft, IsLookBeforeTouch, IsMissing, IsSentRight, IsShapeStory, IsToldCause, IsUnexplained, IsWrong, IsWrongSend, first_placement, is_read, is_unplaced, is_zero};
 ghost use Rattle.session_story.specs.inner.Contents.{used_early};
 
 use crate::orders::in_every_order;
@@ -273,8 +272,8 @@ pub(crate) fn story_of_fault(
     })
 }
 
-/// Returns the first fault of a session, which its report names, with the story of its page. Makes a few passes over
-/// each log, and allocates as much memory as judging does, and for one more page. Fails only if memory runs out.
+/// Returns the story of a fault of a page, with the page's story, given the report on the session. Makes a few passes
+/// over each log, and allocates as much memory as judging does, and for one more page. Fails only if memory runs out.
 pub(crate) fn fault_at(
     alloc: Global,
     session: &Session,
@@ -282,9 +281,10 @@ pub(crate) fn fault_at(
     fault: &PageFault,
 ) -> Result<FaultStory, AllocError>
     requires report { IsReport session.now report.now }
-    requires first { IsFirstPageFault session.now fault.now.reason (fault.now.log, fault.now.place) }
+    requires fault { IsPageFault session.now fault.now.reason (fault.now.log, fault.now.place) }
     requires of { HasItsPage session.now fault.now }
-    ensures { IfOk result (λ story. (line : ℕ) → line ≡ line_of session.now (fault.now.log, fault.now.place) → IsReportedStory session.now line fault.now story) }
+    ensures fault { IfOk result (λ story. story.fault ≡ fault.now) }
+    ensures story { IfOk result (IsFaultStory session.now) }
 {
     session.keeps_limits();
     let story = story_of(alloc, session, fault.page)?;

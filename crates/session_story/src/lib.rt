@@ -8,6 +8,8 @@
 #![tactic(auto)]
 
 mod amends;
+mod apart;
+mod apart_laws;
 mod asking;
 mod cause_laws;
 mod causes;
@@ -39,13 +41,15 @@ mod values;
 mod waits;
 
 pub use amends::{Amended, amended_by, is_always_wrong, is_number, tells_of, value_at};
+pub use apart::faulty_apart;
+pub use apart_laws::apart_pages_stand;
 pub use cause_laws::{given_is_explained, lost_is_unexplained};
 pub use causes::{Cause, CauseKind, came_to, cause_by, cause_of, is_used_by};
 pub use concerns::{concerned_of, resumed_by};
 pub use counting::{Counts, counts_of};
 pub use explaining::explain;
 pub use explanations::Explanation;
-pub use fault_stories::{Detail, FaultStory, PageCause, ShapeStory, Wrong};
+pub use fault_stories::{ApartStory, Detail, FaultStory, PageCause, ShapeStory, Wrong};
 pub use giving::giver_of;
 pub use kinds::{Kinds, Tally, log_of};
 pub use knots::{Knot, Waiting};

@@ -1,14 +1,13 @@
 //! What a record is about.
 
-ghost use Rattle.std.specs.Prelude.{◌≡◌, ℕ, Some};
+ghost use Rattle.std.specs.Prelude.{◌≡◌};
 ghost use Rattle.page_facts.specs.PageFaults.{page_at};
-ghost use Rattle.migration_types.specs.Receipts.{Name as Named};
-ghost use Rattle.migration_types.specs.Rows.{row_of};
-ghost use Rattle.migration_types.specs.Sessions.{Recorded};
-ghost use Rattle.session_story.specs.Subjects.{about, about_among, about_by, page_of};
+ghost use Rattle.session_story.specs.Subjects.{about, page_of};
 
 use crate::names::Name;
-use migration_types::{Field, LogName, PageNo, Paged, Session};
+use migration_types::{
+    GuestRec, LaneRec, LinkRec, LogName, PageNo, Paged, PagerRec, Session, SourceRec,
+};
 
 /// What a record is about.
 #[derive(Clone, Copy)]
@@ -36,38 +35,48 @@ pub fn page_at(session: &Session, log: LogName, place: u32) -> Option<PageNo>
     }
 }
 
-/// A law: what a record is about follows from what it consists of.
-fn subjects_follow()
-    ensures { (s : Recorded) (name : Named) → about s name ≡ about_by (row_of s name) }
-{}
-
-/// States that a record of a page is about that page.
-fn pages_are_subjects()
-    ensures { (s : Recorded) (name : Named) (page : ℕ) → page_at s name ≡ Some page → page_of s name ≡ Some page }
-{}
-
-/// Returns what fields are about: the first page, or the first record that is not of the handover.
-fn about_among(fields: &[Field]) -> About
-    ensures { result ≡ about_among fields.now }
-{
-    for field in fields {
-        match *field {
-            Field::Page(page) => return About::Page(page),
-            Field::Number(log, number) => return About::Record(log, number),
-            _ => {}
-        }
-    }
-    About::Nothing
-}
-
 /// Returns what the record with this name is about.
 fn subject(session: &Session, name: Name) -> About
     ensures { result ≡ about session.now name }
 {
-    subjects_follow();
-    match session.row(name) {
-        Some(row) => about_among(row.fields()),
-        None => About::Nothing,
+    let place = name.1 as usize;
+    match name.0 {
+        LogName::Guest => match session.guest().get(place) {
+            Some(
+                GuestRec::Read { page, .. }
+                | GuestRec::Write { page, .. }
+                | GuestRec::Release { page, .. }
+                | GuestRec::Miss { page, .. },
+            ) => About::Page(*page),
+            Some(GuestRec::See { placement }) => About::Record(LogName::Pager, *placement),
+            _ => About::Nothing,
+        },
+        LogName::Source => match session.source().get(place) {
+            Some(SourceRec::Send { page, .. }) => About::Page(*page),
+            Some(SourceRec::Again { sending }) => About::Record(LogName::Source, *sending),
+            Some(SourceRec::Ask { up }) => About::Record(LogName::Link, *up),
+            _ => About::Nothing,
+        },
+        LogName::Link => match session.link().get(place) {
+            Some(LinkRec::Down { sending }) => About::Record(LogName::Source, *sending),
+            Some(LinkRec::Up { asking }) => About::Record(LogName::Pager, *asking),
+            None => About::Nothing,
+        },
+        LogName::Lane => match session.lane().get(place) {
+            Some(LaneRec::Down { sending }) => About::Record(LogName::Source, *sending),
+            None => About::Nothing,
+        },
+        LogName::Pager => match session.pager().get(place) {
+            Some(
+                PagerRec::Want { page } | PagerRec::Place { page, .. } | PagerRec::Zero { page },
+            ) => About::Page(*page),
+            Some(PagerRec::Got { down }) => About::Record(LogName::Link, *down),
+            Some(PagerRec::Pull { down }) => About::Record(LogName::Lane, *down),
+            Some(PagerRec::Fault { miss }) => About::Record(LogName::Guest, *miss),
+            Some(PagerRec::Join { want }) => About::Record(LogName::Pager, *want),
+            Some(PagerRec::Skip { got }) => About::Record(LogName::Pager, *got),
+            _ => About::Nothing,
+        },
     }
 }
 
@@ -76,10 +85,6 @@ fn subject(session: &Session, name: Name) -> About
 pub fn page_of(session: &Session, name: (LogName, u32)) -> Option<PageNo>
     ensures { result ≡ page_of session.now name }
 {
-    pages_are_subjects();
-    if let Some(page) = page_at(session, name.0, name.1) {
-        return Some(page);
-    }
     let mut at = name;
     let mut steps = MOST_STEPS;
     while steps > 0 {

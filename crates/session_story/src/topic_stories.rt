@@ -1,7 +1,7 @@
 //! The story of a session on a topic, as a value: of its report, of a page, or of a line of its text.
 
 ghost use Rattle.std.specs.Prelude.{◌≡◌};
-ghost use Rattle.session_story.specs.Topics.{fault_in, fault_reported, page_in};
+ghost use Rattle.session_story.specs.Topics.{apart_in, fault_in, fault_reported, page_in};
 
 use crate::explanations::Explanation;
 use crate::fault_stories::{FaultStory, ShapeStory};
@@ -54,6 +54,20 @@ impl TopicStory {
                 Some(line) => line.page,
                 None => None,
             },
+        }
+    }
+
+    /// Returns the story of the first fault that misshapen records do not touch, if the story is of the shape and there is
+    /// such a fault. Allocates no memory.
+    pub fn apart(&self) -> Option<FaultStory>
+        ensures { result ≡ apart_in self.now }
+    {
+        match self {
+            TopicStory::Report(Explanation::Shape { apart, .. }) => match apart {
+                Some(told) => Some(told.story),
+                None => None,
+            },
+            _ => None,
         }
     }
 

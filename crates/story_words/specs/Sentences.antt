@@ -39,6 +39,7 @@ use Rattle.session_story.specs.declared.fault_stories.PageCause.TheVariants.{Sen
 use Rattle.session_story.specs.declared.fault_stories.Detail.{Detail}
 use Rattle.session_story.specs.declared.fault_stories.Detail.TheVariants.{Instead, Seen, Other}
 use Rattle.session_story.specs.declared.fault_stories.FaultStory.{FaultStory}
+use Rattle.session_story.specs.declared.fault_stories.ApartStory.{ApartStory}
 use Rattle.session_story.specs.declared.fault_stories.ShapeStory.{ShapeStory}
 use Rattle.session_story.specs.declared.kinds.Kinds.{Kinds}
 use Rattle.session_story.specs.declared.kinds.Tally.{Tally}
@@ -261,9 +262,14 @@ more_of n = if n == 0 then None else Some (say.MoreFaulty n)
 unfoldable pub faulty_page_told : Recorded → FaultStory → ℕ → List Sentence
 faulty_page_told s f more = fault_told s f ++ (order_of f ∷ []) ++ story_told s f.page f.handover ++ listed (more_of more)
 
+-- the faulty pages that misshapen records do not touch, if there are any: the first with its story
+unfoldable pub apart_told : Recorded → Option ApartStory → List Sentence
+apart_told s None = []
+apart_told s (Some t) = say.Apart t.story.page.page ∷ [] ++ fault_told s t.story ++ story_told s t.story.page t.story.handover ++ listed (more_of t.more)
+
 -- the story of a report
 unfoldable pub explained_told : Recorded → Explanation → List Sentence
-explained_told s (explained.Shape t) = shape_told s t
+explained_told s (explained.Shape t apart) = shape_told s t ++ apart_told s apart
 explained_told s (explained.Knot knot) = knot_told knot
 explained_told s (explained.Faulty f more) = faulty_page_told s f more
 explained_told s (explained.Clean counts) = counts_told s.version counts
@@ -334,7 +340,7 @@ caused_first s f None = faulty_told s f
 caused_first s f (Some cause) = cause_told f ∷ shows_of f ∷ []
 
 unfoldable pub explained_first : Recorded → Explanation → List Sentence
-explained_first s (explained.Shape t) = shape_told s t
+explained_first s (explained.Shape t apart) = shape_told s t
 explained_first s (explained.Knot knot) = say.NoOrder ∷ []
 explained_first s (explained.Faulty f more) = caused_first s f f.cause
 explained_first s (explained.Clean counts) = say.Clean ∷ []

@@ -73,6 +73,8 @@ pub enum Sentence {
     EveryOrder(PageReason),
     /// The order in an audit's report shows a fault with this reason.
     ShownOrder(PageReason),
+    /// This page, which misshapen records do not touch, has a fault too.
+    Apart(PageNo),
     /// This many other pages have a fault.
     MoreFaulty(usize),
     /// This page has this many faults in all.
@@ -278,6 +280,7 @@ impl<L: Lines> Teller<'_, L> {
             Sentence::PlacedBefore(place) => self.push_placed_before(out, place),
             Sentence::EveryOrder(reason) => out.push_str(faults::in_every_order(reason)),
             Sentence::ShownOrder(reason) => out.push_str(faults::in_shown_order(reason)),
+            Sentence::Apart(page) => faults::push_apart(out, page),
             Sentence::MoreFaulty(more) => faults::push_more(out, more),
             Sentence::Faults { page, count } => faults::push_in_all(out, page, count),
             Sentence::FaultsFor {

@@ -1,7 +1,7 @@
 //! The sentences about a report, a page, or the record at a line.
 
 ghost use Rattle.std.specs.Prelude.{◌≡◌, ◌++◌, IfOk, OnOk};
-ghost use Rattle.story_words.specs.Sentences.{explained_first, explained_told, fault_first, faulty_page_told, first_fault_told, is_shown, its_page_told, line_first, line_topic, more_of, page_first, page_told, page_topic, record_told, shown_of, told_first, told_in_full, verdict_of};
+ghost use Rattle.story_words.specs.Sentences.{apart_told, explained_first, explained_told, fault_first, faulty_page_told, first_fault_told, is_shown, its_page_told, line_first, line_topic, more_of, page_first, page_told, page_topic, record_told, shown_of, told_first, told_in_full, verdict_of};
 
 use crate::Sentence;
 use crate::counts::push_counts;
@@ -14,7 +14,7 @@ use crate::shapes::push_shape;
 use audit_report::Report;
 use migration_types::Session;
 use session_story::{
-    Explanation, FaultStory, FullPageStory, LineStory, Name, ShapeStory, TopicStory,
+    ApartStory, Explanation, FaultStory, FullPageStory, LineStory, Name, ShapeStory, TopicStory,
 };
 use std::alloc::{AllocError, Global};
 
@@ -45,6 +45,28 @@ fn push_faulty_page(
     push_if(out, more_of(more))
 }
 
+/// Appends the faulty pages that misshapen records do not touch, if there are any: the first with its story. No order is
+/// told, since a session that does not have the right shape has none.
+#[tactic(auto, unfolding(crate::specs::Sentences::apart_told))]
+fn push_apart(
+    out: &mut Vec<Sentence>,
+    session: &Session,
+    apart: &Option<ApartStory>,
+) -> Result<(), AllocError>
+    ensures { OnOk result (out.new.items ≡ out.old.items ++ apart_told session.now apart.now) }
+{
+    match apart {
+        Some(told) => {
+            let story = &told.story;
+            out.extend_from_slice(&[Sentence::Apart(story.page.page)])?;
+            push_fault(out, session, story)?;
+            push_story(out, session, &story.page, &story.handover)?;
+            push_if(out, more_of(told.more))
+        }
+        None => Ok(()),
+    }
+}
+
 /// Appends the story of a report.
 #[tactic(auto, unfolding(crate::specs::Sentences::explained_told))]
 fn push_explanation(
@@ -55,7 +77,10 @@ fn push_explanation(
     ensures { OnOk result (out.new.items ≡ out.old.items ++ explained_told session.now explanation.now) }
 {
     match explanation {
-        Explanation::Shape(story) => push_shape(out, session, story),
+        Explanation::Shape { story, apart } => {
+            push_shape(out, session, story)?;
+            push_apart(out, session, apart)
+        }
         Explanation::Knot(knot) => push_knot(out, knot),
         Explanation::Faulty { story, more } => push_faulty_page(out, session, story, *more),
         Explanation::Clean(counts) => push_counts(out, session.version(), counts),
@@ -245,7 +270,7 @@ fn push_explained_first(
     ensures { OnOk result (out.new.items ≡ out.old.items ++ explained_first session.now explanation.now) }
 {
     match explanation {
-        Explanation::Shape(story) => push_shape(out, session, story),
+        Explanation::Shape { story, .. } => push_shape(out, session, story),
         Explanation::Knot(_) => out.extend_from_slice(&[Sentence::NoOrder]),
         Explanation::Faulty { story, .. } => push_caused_first(out, session, story, &story.cause),
         Explanation::Clean(_) => out.extend_from_slice(&[Sentence::Clean]),

@@ -1,5 +1,5 @@
 -- What is written to an output that may fail before the end.
-use Rattle.std.specs.Prelude.{◌≡◌, List, ℕ, ◌++◌, ◌⊎◌, Option}
+use Rattle.std.specs.Prelude.{◌≡◌, ◌<◌, List, ℕ, ◌++◌, ◌⊎◌, Option, length}
 use Rattle.std.specs.Io.KnownBytes.{Appends, Keeps}
 
 -- a front of these bytes was appended: all of them, or those before a failure
@@ -8,6 +8,11 @@ pub record AppendsFront (old new : Option (List ℕ)) (bytes : List ℕ) : Type 
   pub back : List ℕ
   pub parts : bytes ≡ front ++ back
   pub written : Appends old new front
+
+-- a front of these bytes was appended, and not all of them
+pub record AppendsPart (old new : Option (List ℕ)) (bytes : List ℕ) : Type 0 where
+  pub written : AppendsFront old new bytes
+  pub is_short : length written.front < length bytes
 
 -- nothing, or a front of such words, was appended
 abbrev pub MayTell : (List ℕ → Type 0) → Option (List ℕ) → Option (List ℕ) → Type 0

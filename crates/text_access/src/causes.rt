@@ -4,13 +4,6 @@
 use std::io;
 use std::io::ErrorKind;
 
-/// The cause if a text that is read more than once is not the same each time.
-pub const NOT_THE_SAME: &str =
-    "it is read four times and has to be the same each time, as a pipe is not: name a file that stays";
-
-/// The cause if a recording could not be read, and nothing more is known.
-pub const NOT_WHOLE: &str = "the text was not read to its end";
-
 /// Why a text could not be read, or an output could not be written.
 #[derive(Clone, Copy)]
 pub enum Cause {

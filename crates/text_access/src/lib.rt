@@ -5,6 +5,6 @@ mod causes;
 mod sources;
 mod writing;
 
-pub use causes::{Cause, NOT_THE_SAME, NOT_WHOLE, cause_of};
+pub use causes::{Cause, cause_of};
 pub use sources::TextSource;
 pub use writing::{write_or_why, write_whole};

@@ -1,13 +1,14 @@
 -- The first reason at each record of a log.
 use Rattle.std.specs.Prelude.{not, ◌≡◌, ℕ, ◌<◌, Bool, true, Option, Some, None, if◌then◌else◌}
 use Rattle.migration_types.specs.declared.records.LogName.{LogName}
-use Rattle.migration_types.specs.Sessions.{Recorded}
+use Rattle.migration_types.specs.Sessions.{Recorded, line_of}
 use Rattle.audit_model.specs.declared.reasons.ShapeReason.{ShapeReason}
 use Rattle.audit_model.specs.declared.reasons.ShapeReason.TheVariants.{Phases, Named, Start, SecondSend, Both}
 use Rattle.migration_types.specs.declared.records.SourceRec.{SourceRec}
 use Rattle.migration_types.specs.declared.records.SourceRec.TheVariants.{Send}
 use Rattle.migration_types.specs.Receipts.{Name}
 use Rattle.audit_model.specs.Shape.{is_right, is_send_of, earlier}
+use Rattle.cert_check.specs.declared.verdict.ShapeFault.{ShapeFault}
 use Rattle.page_store.specs.Tables.{Values, pages_of, values, with_value}
 
 -- the first of the reasons for which a record is not right
@@ -26,10 +27,12 @@ IsRightBelow s log place = (n : ℕ) → n < place → reason_at s (log, n) ≡ 
 abbrev pub IsRightLog : Recorded → LogName → Type 0
 IsRightLog s log = (n : ℕ) → reason_at s (log, n) ≡ None
 
--- the record at this place has this reason first, and no earlier one of the log has a fault
-pub record IsFirstOfLog (s : Recorded) (log : LogName) (place : ℕ) (reason : ShapeReason) : Type 0 where
-  pub is_reason : reason_at s (log, place) ≡ Some reason
-  pub is_right_below : IsRightBelow s log place
+-- a misshapen record of the log, with its line and first reason, and no earlier one of the log has a fault
+pub record IsFirstOfLog (s : Recorded) (log : LogName) (fault : ShapeFault) : Type 0 where
+  pub is_line : fault.line ≡ line_of s (log, fault.place)
+  pub is_log : fault.log ≡ log
+  pub is_reason : reason_at s (log, fault.place) ≡ Some fault.reason
+  pub is_right_below : IsRightBelow s log fault.place
 
 -- marks for pages, which find a second `send`
 abbrev pub is_unmarked : (ℕ → Bool) → SourceRec → Bool

@@ -5,10 +5,11 @@ use crate::fields::{field_of, has_field};
 use crate::fitting::{Departure, Fit, fit_of};
 use crate::line_fault::LineFault;
 use crate::quoting::push_quote;
-use crate::refused::{Refused, WideWanted};
+use crate::refused::Refused;
 use crate::slips::{Slip, slip_between, slip_of, slip_of_line};
 use crate::special::Special;
 use std::alloc::{AllocError, Global};
+use text_lines::Wanted;
 
 /// The greatest number of forms that are all written out if none begins as the line does.
 const FEW: usize = 3;
@@ -35,7 +36,7 @@ fn push_forms(out: &mut String, forms: &[&'static str]) -> Result<(), AllocError
 }
 
 /// Returns the ending of an ordinal number.
-fn ordinal(number: u64) -> &'static str {
+fn ordinal(number: u32) -> &'static str {
     match (number % 100, number % 10) {
         (11 | 12 | 13, _) => "th",
         (_, 1) => "st",
@@ -46,7 +47,7 @@ fn ordinal(number: u64) -> &'static str {
 }
 
 /// Appends which item of a list is wanted, or that the list is complete.
-fn push_promise(out: &mut String, wanted: &WideWanted) -> Result<(), AllocError> {
+fn push_promise(out: &mut String, wanted: &Wanted) -> Result<(), AllocError> {
     let at = wanted.counted_at;
     let count = wanted.count;
     if at == 0 {
@@ -65,7 +66,7 @@ fn push_promise(out: &mut String, wanted: &WideWanted) -> Result<(), AllocError>
 }
 
 /// Appends what is wanted if nothing in the line fits.
-fn push_wanted(out: &mut String, wanted: &WideWanted) -> Result<(), AllocError> {
+fn push_wanted(out: &mut String, wanted: &Wanted) -> Result<(), AllocError> {
     let forms = wanted.forms;
     if forms.is_empty() && wanted.what.is_empty() {
         return out.push_str("another line");
@@ -81,7 +82,7 @@ fn push_wanted(out: &mut String, wanted: &WideWanted) -> Result<(), AllocError> 
 }
 
 /// Appends what is wanted of a line that has its form.
-fn push_rule(out: &mut String, wanted: &WideWanted) -> Result<(), AllocError> {
+fn push_rule(out: &mut String, wanted: &Wanted) -> Result<(), AllocError> {
     out.push_str(wanted.what)?;
     push_promise(out, wanted)?;
     if !wanted.rule.is_empty() {
@@ -91,7 +92,7 @@ fn push_rule(out: &mut String, wanted: &WideWanted) -> Result<(), AllocError> {
 }
 
 /// Appends what is unusual about what was found.
-fn push_slip(out: &mut String, slip: Option<Slip>, wanted: &WideWanted) -> Result<(), AllocError> {
+fn push_slip(out: &mut String, slip: Option<Slip>, wanted: &Wanted) -> Result<(), AllocError> {
     let Some(slip) = slip else {
         return Ok(());
     };
@@ -143,7 +144,7 @@ fn best_forms(alloc: Global, refused: &Refused, best: &Fit<'_>) -> Result<BestFo
 }
 
 /// Appends the meaning of a word of a form.
-fn push_slot(out: &mut String, slot: &str, wanted: &WideWanted) -> Result<(), AllocError> {
+fn push_slot(out: &mut String, slot: &str, wanted: &Wanted) -> Result<(), AllocError> {
     match field_of(slot) {
         None => push_quote(out, slot.as_bytes()),
         Some(field) => {
@@ -153,11 +154,7 @@ fn push_slot(out: &mut String, slot: &str, wanted: &WideWanted) -> Result<(), Al
     }
 }
 
-fn push_slots(
-    out: &mut String,
-    slots: &[&'static str],
-    wanted: &WideWanted,
-) -> Result<(), AllocError> {
+fn push_slots(out: &mut String, slots: &[&'static str], wanted: &Wanted) -> Result<(), AllocError> {
     for (at, slot) in slots.iter().enumerate() {
         push_between(out, at, slots.len())?;
         push_slot(out, slot, wanted)?;
@@ -166,7 +163,7 @@ fn push_slots(
 }
 
 /// Returns what is unusual about the word at which a line departs.
-fn slip_at(fit: &Fit<'_>, wanted: &WideWanted) -> Option<Slip> {
+fn slip_at(fit: &Fit<'_>, wanted: &Wanted) -> Option<Slip> {
     let Departure::Word { slot, word, .. } = fit.stop else {
         return None;
     };
@@ -177,7 +174,7 @@ fn slip_at(fit: &Fit<'_>, wanted: &WideWanted) -> Option<Slip> {
 }
 
 /// Appends the rule that allows only one word of the form, if the line departs at such a word.
-fn push_kept(out: &mut String, fit: &Fit<'_>, wanted: &WideWanted) -> Result<(), AllocError> {
+fn push_kept(out: &mut String, fit: &Fit<'_>, wanted: &Wanted) -> Result<(), AllocError> {
     let is_chosen = match fit.slot() {
         Some(slot) => fit.words > 0 && field_of(slot).is_none(),
         None => false,
@@ -194,7 +191,7 @@ fn push_choice(
     out: &mut String,
     choices: &BestForms,
     form: &str,
-    wanted: &WideWanted,
+    wanted: &Wanted,
 ) -> Result<(), AllocError> {
     if !has_field(form) {
         return push_forms(out, choices.forms.as_slice());

@@ -1,8 +1,8 @@
 //! The meaning of the fields of a form, in words.
 
 use crate::fields::{FieldKind, MOST_FATES, digits_of, range_of};
-use crate::refused::WideWanted;
 use std::alloc::AllocError;
+use text_lines::Wanted;
 
 /// Returns the noun for what a field holds.
 fn noun(field: FieldKind) -> &'static str {
@@ -20,7 +20,7 @@ fn noun(field: FieldKind) -> &'static str {
     }
 }
 
-fn push_contents(out: &mut String, wanted: &WideWanted) -> Result<(), AllocError> {
+fn push_contents(out: &mut String, wanted: &Wanted) -> Result<(), AllocError> {
     match digits_of(wanted) {
         None => out.push_str("16 digits for each cell")?,
         Some(digits) => {
@@ -36,7 +36,7 @@ fn push_contents(out: &mut String, wanted: &WideWanted) -> Result<(), AllocError
 pub(crate) fn push_meaning(
     out: &mut String,
     field: FieldKind,
-    wanted: &WideWanted,
+    wanted: &Wanted,
 ) -> Result<(), AllocError> {
     let noun = noun(field);
     if let Some(range) = range_of(field, wanted) {

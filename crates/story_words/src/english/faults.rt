@@ -72,6 +72,15 @@ pub(crate) fn push_unexplained(out: &mut String, page: PageNo) -> Result<(), All
     )
 }
 
+/// Appends that a page that misshapen records do not touch has a fault too.
+pub(crate) fn push_apart(out: &mut String, page: PageNo) -> Result<(), AllocError> {
+    let page = page.number();
+    write!(
+        out,
+        "Apart from that, page {page} goes wrong too. No record of wrong shape is about it."
+    )
+}
+
 /// Appends how many other pages have a fault.
 pub(crate) fn push_more(out: &mut String, more: usize) -> Result<(), AllocError> {
     if more == 1 {

@@ -5,6 +5,6 @@ use Rattle.session_answers.proofs.reports.all_faults_object.Goals as goal
 pub returns : goal.returns
 returns c = record {
   pages = c.args.pages.now;
-  are_faulty = c.requires;
+  are_listed = c.requires;
   is_text = c.in_ok-push_all_faults.ensures ∙ ap (λ (t : List ℕ). t ++ all_faults_object c.args.session.now c.args.report.now c.args.pages.now) c.new-object.ensures.items;
 }

@@ -10,4 +10,4 @@ returns-in_ok-story-in-Faulty c =
     let s = c.args.session.now in
     let at = c.in_ok-story-in-Faulty in
     let more = c.more_faulty-more in
-    subst (λ (r : Report). IsReport s r → IsExplanation s r (told.Faulty at.story more.result)) (sym c.in-Faulty.is) (λ is. (at.ensures c.in-Faulty.line is.1.is_line, more.ensures)) c.requires
+    subst (λ (r : Report). IsReport s r → IsExplanation s r (told.Faulty at.story more.result)) (sym c.in-Faulty.is) (λ is. (record { is_line = is.1.is_line; is_fault = at.ensures.fault; is_first = is.1.is_first; story = at.ensures.story }, more.ensures)) c.requires

@@ -6,9 +6,6 @@ use Rattle.session_story.proofs.faults.fault_at.Goals as goal
 pub story_of-requires : goal.story_of-requires
 story_of-requires c = page_below c.args.session.now c.keeps_limits.ensures (c.args.fault.now.log, c.args.fault.now.place) c.args.fault.now.page c.requires.of
 
-pub story_of_fault-requires-clause-fault : goal.story_of_fault-requires-clause-fault
-story_of_fault-requires-clause-fault c = c.requires.first.is_fault
-
 pub story_of_fault-requires-clause-of : goal.story_of_fault-requires-clause-of
 story_of_fault-requires-clause-of c = c.requires.of ∙ ap (λ (p : ℕ). Some p) (sym c.in_ok-story.ensures.page_is)
 

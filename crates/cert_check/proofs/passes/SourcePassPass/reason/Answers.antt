@@ -1,0 +1,13 @@
+use Rattle.std.proofs.Common.{List, length, sym, ap, arith}
+use Rattle.migration_types.specs.declared.records.SourceRec.{SourceRec}
+use Rattle.cert_check.proofs.Reading.{read_at}
+use Rattle.cert_check.proofs.FirstOfLog.{source_turn}
+use Rattle.cert_check.proofs.passes.SourcePassPass.reason.Goals as goal
+
+pub returns : goal.returns
+returns c =
+    let s = c.args.session.now in
+    let rec = c.index-source-n.result in
+    let all = ap (λ (xs : List SourceRec). length xs) c.source.ensures in
+    let is = read_at c.source.result.now s.source c.args.n rec c.source.ensures (omega (arith, all, c.requires.within)) c.index-source-n.is in
+    sym (source_turn s c.args.sent.now c.args.n rec _ is c.requires.at c.source_reason.ensures)
