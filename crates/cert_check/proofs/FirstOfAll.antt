@@ -11,7 +11,9 @@ use Rattle.audit_model.specs.Names.{log_length}
 use Rattle.audit_model.specs.Shape.{is_right, IsRightShape}
 use Rattle.cert_check.specs.Verdicts.{IsShapeFault}
 use Rattle.cert_check.specs.declared.verdict.ShapeFault.{ShapeFault}
+use Rattle.cert_check.specs.declared.passes.Pass.{Pass}
 use Rattle.cert_check.specs.inner.FirstOfLog.{first_reason, reason_at, IsRightLog, IsFirstOfLog}
+use Rattle.cert_check.specs.inner.Passes.{IsAt}
 use Rattle.audit_model.specs.Reasons.{rank}
 use Rattle.audit_model.specs.FirstFault.{IsFirstFault}
 use Rattle.audit_model.proofs.Cuts.{same_from_test}
@@ -179,3 +181,18 @@ shape_right s right r (log, n) = right_from_none s (log, n) (right log (index_sm
 -- the log of this number
 pub at_place : (k : ℕ) (ls : List LogName) → ls ≡ logs → k < length logs → log_index (get_or ls k Guest) ≡ k
 at_place k ls list lt = ap (λ (xs : List LogName). log_index (get_or xs k Guest)) list ∙ index_of_place k Guest lt
+
+-- the pass is before each log, except the first so many
+abbrev pub IsBefore : Recorded → ℕ → Pass → Type 0
+IsBefore s count pass = (log : LogName) → count ≤ log_index log → IsAt s log 0 pass
+
+pub before_all : (s : Recorded) (pass : Pass) → IsAt s Guest 0 pass → IsBefore s 0 pass
+before_all s pass at Guest le = at
+before_all s pass at Source le = at.1
+before_all s pass at log le = tt
+
+pub behind_log : (s : Recorded) (log : LogName) (n : ℕ) (pass : Pass) → IsAt s log n pass → IsBefore s (log_index log + 1) pass
+behind_log s log n pass at Guest le = absurd (omega (arith, le))
+behind_log s Guest n pass at Source le = at.1
+behind_log s log n pass at Source le = absurd (omega (arith, le))
+behind_log s log n pass at other le = tt

@@ -7,6 +7,9 @@ use Rattle.migration_types.specs.declared.records.LogName.{LogName}
 use Rattle.migration_types.specs.declared.records.LogName.TheVariants.{Guest, Source, Link, Lane, Pager}
 use Rattle.migration_types.specs.declared.records.SourceRec.{SourceRec}
 use Rattle.migration_types.specs.declared.records.SourceRec.TheVariants.{Halted, State, Send, Again, Ask, Done, Back}
+use Rattle.migration_types.specs.declared.records.LinkRec.{LinkRec}
+use Rattle.migration_types.specs.declared.records.LaneRec.{LaneRec}
+use Rattle.migration_types.specs.declared.records.PagerRec.{PagerRec}
 use Rattle.audit_model.specs.declared.reasons.ShapeReason.{ShapeReason}
 use Rattle.migration_types.specs.Sessions.{Recorded, line_of}
 use Rattle.audit_model.specs.Names.{log_length}
@@ -30,6 +33,15 @@ source_past s n past = ap (λ o. first_reason true (keeps (source_named s n) o) 
 
 pub source_reason_at : (s : Recorded) (n : ℕ) (r : SourceRec) → slice_get s.source n ≡ Some r → reason_at s (Source, n) ≡ first_reason true (source_named s n r) (source_start s n r) (is_first_send s n r) (is_alone s r)
 source_reason_at s n r e = ap (λ o. first_reason true (keeps (source_named s n) o) (keeps (source_start s n) o) (keeps (is_first_send s n) o) (keeps (is_alone s) o)) e
+
+pub link_reason_at : (s : Recorded) (n : ℕ) (r : LinkRec) → slice_get s.link n ≡ Some r → reason_at s (Link, n) ≡ first_reason true (link_named s r) true true true
+link_reason_at s n r e = ap (λ o. first_reason true (keeps (link_named s) o) true true true) e
+
+pub lane_reason_at : (s : Recorded) (n : ℕ) (r : LaneRec) → slice_get s.lane n ≡ Some r → reason_at s (Lane, n) ≡ first_reason true (lane_named s r) true true true
+lane_reason_at s n r e = ap (λ o. first_reason true (keeps (lane_named s) o) true true true) e
+
+pub pager_reason_at : (s : Recorded) (n : ℕ) (r : PagerRec) → slice_get s.pager n ≡ Some r → reason_at s (Pager, n) ≡ first_reason true (pager_named s n r) (pager_start s n r) true true
+pager_reason_at s n r e = ap (λ o. first_reason true (keeps (pager_named s n) o) (keeps (pager_start s n) o) true true) e
 
 link_past : (s : Recorded) (n : ℕ) → length s.link ≤ n → reason_at s (Link, n) ≡ None
 link_past s n past = ap (λ o. first_reason true (keeps (link_named s) o) true true true) (slice_get_past s.link n past)

@@ -1,4 +1,4 @@
 -- Definitions that only proofs use.
 pub mod FirstOfLog
-pub mod Phases
+pub mod Passes
 pub mod FaultsUpTo

@@ -1,49 +1,16 @@
-//! Passes over a log that judge the shape of its records, one after the other: up to the first that is misshapen, or
-//! over all of them.
-//!
-//! A pass keeps a little state, and asks at each record why it is misshapen. What differs from log to log is in [`Pass`].
+//! The misshapen records of a log: the first, or all of them.
 
-ghost use Rattle.std.specs.Prelude.{◌≡◌, ◌+◌, ◌<◌, ℕ, IfOk, MatchOption, OnOk, Some};
-ghost use Rattle.migration_types.specs.declared.records.LogName.{LogName as Log};
-ghost use Rattle.migration_types.specs.Sessions.{IsSession, Recorded, line_of, log_length};
+ghost use Rattle.std.specs.Prelude.{◌≡◌, ◌+◌, MatchOption, OnOk, Some};
+ghost use Rattle.migration_types.specs.Sessions.{IsSession, line_of, log_length};
 ghost use Rattle.cert_check.specs.inner.FaultsUpTo.{AreFaultsUpTo};
 ghost use Rattle.cert_check.specs.inner.FirstOfLog.{IsFirstOfLog, IsRightLog, reason_at};
+ghost use Rattle.cert_check.specs.inner.Passes.{IsAt};
 
+use crate::passes::Pass;
 use crate::verdict::ShapeFault;
 use audit_model::ShapeReason;
 use migration_types::{LogName, Session, line_of};
-use std::alloc::{AllocError, Global};
-
-/// How the records of a log are judged, one after the other.
-pub(crate) trait Pass {
-    /// The state that is kept from one record to the next.
-    type State: Drop;
-
-    /// The log.
-    ghost log: { Log };
-
-    /// The state before the record of this number.
-    ghost IsAt: { Recorded → ℕ → Self.State → Type 0 };
-
-    /// Returns the state before the first record. Fails only if memory runs out.
-    fn begin(alloc: Global, session: &Session) -> Result<Self::State, AllocError>
-        requires { IsSession session.now }
-        ensures { IfOk result (IsAt session.now 0) };
-
-    /// Returns why the record of this number is misshapen, if so.
-    fn reason(session: &Session, state: &Self::State, n: usize) -> Option<ShapeReason>
-        requires limits { IsSession session.now }
-        requires within { n < log_length session.now log }
-        requires at { IsAt session.now n state.now }
-        ensures { result ≡ reason_at session.now (log, n) };
-
-    /// Goes on behind the record of this number, misshapen or not.
-    fn step(session: &Session, state: &mut Self::State, n: usize)
-        requires limits { IsSession session.now }
-        requires within { n < log_length session.now log }
-        requires at { IsAt session.now n state.old }
-        ensures { IsAt session.now (n + 1) state.new };
-}
+use std::alloc::AllocError;
 
 /// Returns a misshapen record of a log with its line.
 fn told(session: &Session, log: LogName, n: usize, reason: ShapeReason) -> ShapeFault
@@ -63,24 +30,19 @@ fn told(session: &Session, log: LogName, n: usize, reason: ShapeReason) -> Shape
     }
 }
 
-/// Returns the first misshapen record of a log. Fails only if memory runs out.
-pub(crate) fn first_found<P: Pass>(
-    alloc: Global,
-    session: &Session,
-    log: LogName,
-) -> Result<Option<ShapeFault>, AllocError>
+/// Goes over a log, and returns its first misshapen record.
+pub(crate) fn first_found(session: &Session, log: LogName, pass: &mut Pass) -> Option<ShapeFault>
     requires limits { IsSession session.now }
-    requires log { log ≡ P.log }
-    ensures { IfOk result (λ found. MatchOption found (IsRightLog session.now log) (IsFirstOfLog session.now log)) }
+    requires at { IsAt session.now log 0 pass.old }
+    ensures { MatchOption result (IsRightLog session.now log × IsAt session.now log (log_length session.now log) pass.new) (IsFirstOfLog session.now log) }
 {
-    let mut state = P::begin(alloc, session)?;
     for n in 0..session.len(log) {
-        if let Some(reason) = P::reason(session, &state, n) {
-            return Ok(Some(told(session, log, n, reason)));
+        if let Some(reason) = pass.reason(session, log, n) {
+            return Some(told(session, log, n, reason));
         }
-        P::step(session, &mut state, n);
+        pass.step(session, log, n);
     }
-    Ok(None)
+    None
 }
 
 /// Appends the record of this number, if it is misshapen. Fails only if memory runs out.
@@ -102,23 +64,22 @@ fn push_if(
     Ok(())
 }
 
-/// Appends each misshapen record of a log. Fails only if memory runs out.
-pub(crate) fn push_found<P: Pass>(
-    alloc: Global,
+/// Goes over a log, and appends each misshapen record. Fails only if memory runs out.
+pub(crate) fn push_found(
     session: &Session,
     log: LogName,
+    pass: &mut Pass,
     found: &mut Vec<ShapeFault>,
 ) -> Result<(), AllocError>
     requires limits { IsSession session.now }
-    requires log { log ≡ P.log }
+    requires at { IsAt session.now log 0 pass.old }
     requires before { AreFaultsUpTo session.now log 0 found.old.items }
-    ensures { OnOk result (AreFaultsUpTo session.now log (log_length session.now log) found.new.items) }
+    ensures { OnOk result (AreFaultsUpTo session.now log (log_length session.now log) found.new.items × IsAt session.now log (log_length session.now log) pass.new) }
 {
-    let mut state = P::begin(alloc, session)?;
     for n in 0..session.len(log) {
-        let reason = P::reason(session, &state, n);
+        let reason = pass.reason(session, log, n);
         push_if(session, log, n, reason, found)?;
-        P::step(session, &mut state, n);
+        pass.step(session, log, n);
     }
     Ok(())
 }

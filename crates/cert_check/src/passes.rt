@@ -1,17 +1,14 @@
-//! How the records of each log are judged for the shape, one after the other, and the misshapen ones of a log.
+//! A pass over the logs of a session: what it keeps from record to record, and why a record is misshapen.
 
-ghost use Rattle.std.specs.Prelude.{◌≡◌, ◌||◌, true, IfOk, MatchOption, OnOk};
-ghost use Rattle.migration_types.specs.declared.records.LogName.TheVariants.{Guest, Source, Link, Lane, Pager};
+ghost use Rattle.std.specs.Prelude.{◌≡◌, ◌+◌, ◌<◌, ◌||◌, true, IfOk};
+ghost use Rattle.migration_types.specs.declared.records.LogName.TheVariants.{Guest};
 ghost use Rattle.migration_types.specs.Sessions.{IsSession, log_length};
-ghost use Rattle.audit_model.specs.Shape.{in_phase_by, is_halt, is_resume, guest_named, source_named, link_named, lane_named, pager_named, source_start, pager_start, is_alone};
+ghost use Rattle.audit_model.specs.Shape.{in_phase_by, is_halt, is_resume, guest_named, source_named, pager_named, source_start, pager_start, is_alone};
 ghost use Rattle.page_store.specs.Tables.{pages_of, values, IsWith};
 ghost use Rattle.page_facts.specs.Moved.{SourcePage};
-ghost use Rattle.cert_check.specs.inner.FaultsUpTo.{AreFaultsUpTo};
-ghost use Rattle.cert_check.specs.inner.FirstOfLog.{first_reason, is_unmarked, marked_by, AreSent, IsRightLog, IsFirstOfLog};
-ghost use Rattle.cert_check.specs.inner.Phases.{ArePhases, ArePhasesAfter};
+ghost use Rattle.cert_check.specs.inner.FirstOfLog.{first_reason, is_unmarked, marked_by, reason_at};
+ghost use Rattle.cert_check.specs.inner.Passes.{ArePhasesAfter, IsAt};
 
-use crate::log_passes::{Pass, first_found, push_found};
-use crate::verdict::ShapeFault;
 use audit_model::{
     ShapeReason, guest_named, in_phase, is_alone, is_halt, is_resume, lane_named, link_named,
     pager_named, pager_start, source_named, source_start,
@@ -27,20 +24,14 @@ struct Phases {
     resumed: bool,
 }
 
-/// The pass over the guest's log.
-struct GuestPass;
-
-/// The pass over the source's log, with a mark for each page that was sent.
-struct SourcePass;
-
-/// The pass over the link's log.
-struct LinkPass;
-
-/// The pass over the lane's log.
-struct LanePass;
-
-/// The pass over the pager's log.
-struct PagerPass;
+/// A pass over the logs of a session, in their order.
+#[derive(Drop)]
+pub(crate) struct Pass {
+    /// What the guest's log had so far.
+    phases: Phases,
+    /// A mark for each page that was sent so far.
+    sent: Table<bool>,
+}
 
 /// Returns why a guest record does not have the right shape, if so.
 fn guest_reason(session: &Session, rec: &GuestRec, phases: Phases) -> Option<ShapeReason>
@@ -62,29 +53,6 @@ fn phases_after(rec: &GuestRec, phases: Phases) -> Phases
     Phases {
         halted: is_halt(rec) || phases.halted,
         resumed: is_resume(rec) || phases.resumed,
-    }
-}
-
-impl Pass for GuestPass {
-    type State = Phases;
-
-    ghost log = { Guest };
-
-    ghost IsAt = { ArePhases };
-
-    fn begin(_alloc: Global, _session: &Session) -> Result<Phases, AllocError> {
-        Ok(Phases {
-            halted: false,
-            resumed: false,
-        })
-    }
-
-    fn reason(session: &Session, phases: &Phases, n: usize) -> Option<ShapeReason> {
-        guest_reason(session, &session.guest()[n], *phases)
-    }
-
-    fn step(session: &Session, phases: &mut Phases, n: usize) {
-        *phases = phases_after(&session.guest()[n], *phases);
     }
 }
 
@@ -134,68 +102,6 @@ fn source_reason(
     None
 }
 
-impl Pass for SourcePass {
-    type State = Table<bool>;
-
-    ghost log = { Source };
-
-    ghost IsAt = { AreSent };
-
-    fn begin(alloc: Global, session: &Session) -> Result<Table<bool>, AllocError> {
-        Table::no_marks(alloc, session.geometry().pages())
-    }
-
-    fn reason(session: &Session, sent: &Table<bool>, n: usize) -> Option<ShapeReason> {
-        source_reason(session, n, &session.source()[n], sent)
-    }
-
-    fn step(session: &Session, sent: &mut Table<bool>, n: usize) {
-        mark(sent, &session.source()[n]);
-    }
-}
-
-impl Pass for LinkPass {
-    type State = ();
-
-    ghost log = { Link };
-
-    ghost IsAt = { λ s n u. Unit {0} };
-
-    fn begin(_alloc: Global, _session: &Session) -> Result<(), AllocError> {
-        Ok(())
-    }
-
-    fn reason(session: &Session, _nothing: &(), n: usize) -> Option<ShapeReason> {
-        if !link_named(session, &session.link()[n]) {
-            return Some(ShapeReason::Named);
-        }
-        None
-    }
-
-    fn step(_session: &Session, _nothing: &mut (), _n: usize) {}
-}
-
-impl Pass for LanePass {
-    type State = ();
-
-    ghost log = { Lane };
-
-    ghost IsAt = { λ s n u. Unit {0} };
-
-    fn begin(_alloc: Global, _session: &Session) -> Result<(), AllocError> {
-        Ok(())
-    }
-
-    fn reason(session: &Session, _nothing: &(), n: usize) -> Option<ShapeReason> {
-        if !lane_named(session, &session.lane()[n]) {
-            return Some(ShapeReason::Named);
-        }
-        None
-    }
-
-    fn step(_session: &Session, _nothing: &mut (), _n: usize) {}
-}
-
 /// Returns why pager record n does not have the right shape, if so.
 fn pager_reason(session: &Session, n: usize, rec: &PagerRec) -> Option<ShapeReason>
     ensures { result ≡ first_reason true (pager_named session.now n rec.now) (pager_start session.now n rec.now) true true }
@@ -209,58 +115,57 @@ fn pager_reason(session: &Session, n: usize, rec: &PagerRec) -> Option<ShapeReas
     None
 }
 
-impl Pass for PagerPass {
-    type State = ();
-
-    ghost log = { Pager };
-
-    ghost IsAt = { λ s n u. Unit {0} };
-
-    fn begin(_alloc: Global, _session: &Session) -> Result<(), AllocError> {
-        Ok(())
-    }
-
-    fn reason(session: &Session, _nothing: &(), n: usize) -> Option<ShapeReason> {
-        pager_reason(session, n, &session.pager()[n])
-    }
-
-    fn step(_session: &Session, _nothing: &mut (), _n: usize) {}
-}
-
-/// Returns the first misshapen record of a log. Fails only if memory runs out.
-pub(crate) fn fault_of(
-    alloc: Global,
-    session: &Session,
-    log: LogName,
-) -> Result<Option<ShapeFault>, AllocError>
-    requires { IsSession session.now }
-    ensures { IfOk result (λ found. MatchOption found (IsRightLog session.now log) (IsFirstOfLog session.now log)) }
+/// Returns why a record of the link or the lane does not have the right shape, if so.
+fn named_reason(is_named: bool) -> Option<ShapeReason>
+    ensures { result ≡ first_reason true is_named true true true }
 {
-    match log {
-        LogName::Guest => first_found::<GuestPass>(alloc, session, log),
-        LogName::Source => first_found::<SourcePass>(alloc, session, log),
-        LogName::Link => first_found::<LinkPass>(alloc, session, log),
-        LogName::Lane => first_found::<LanePass>(alloc, session, log),
-        LogName::Pager => first_found::<PagerPass>(alloc, session, log),
+    if is_named {
+        None
+    } else {
+        Some(ShapeReason::Named)
     }
 }
 
-/// Appends each misshapen record of a log. Fails only if memory runs out.
-pub(crate) fn push_faults_of(
-    alloc: Global,
-    session: &Session,
-    log: LogName,
-    found: &mut Vec<ShapeFault>,
-) -> Result<(), AllocError>
-    requires limits { IsSession session.now }
-    requires before { AreFaultsUpTo session.now log 0 found.old.items }
-    ensures { OnOk result (AreFaultsUpTo session.now log (log_length session.now log) found.new.items) }
-{
-    match log {
-        LogName::Guest => push_found::<GuestPass>(alloc, session, log, found),
-        LogName::Source => push_found::<SourcePass>(alloc, session, log, found),
-        LogName::Link => push_found::<LinkPass>(alloc, session, log, found),
-        LogName::Lane => push_found::<LanePass>(alloc, session, log, found),
-        LogName::Pager => push_found::<PagerPass>(alloc, session, log, found),
+impl Pass {
+    /// Returns a pass before the first record. Fails only if memory runs out.
+    pub(crate) fn begin(alloc: Global, session: &Session) -> Result<Pass, AllocError>
+        ensures { IfOk result (IsAt session.now Guest 0) }
+    {
+        let sent = Table::no_marks(alloc, session.geometry().pages())?;
+        let phases = Phases {
+            halted: false,
+            resumed: false,
+        };
+        Ok(Pass { phases, sent })
+    }
+
+    /// Returns why the record of this number is misshapen, if so.
+    pub(crate) fn reason(&self, session: &Session, log: LogName, n: usize) -> Option<ShapeReason>
+        requires limits { IsSession session.now }
+        requires within { n < log_length session.now log }
+        requires at { IsAt session.now log n self.now }
+        ensures { result ≡ reason_at session.now (log, n) }
+    {
+        match log {
+            LogName::Guest => guest_reason(session, &session.guest()[n], self.phases),
+            LogName::Source => source_reason(session, n, &session.source()[n], &self.sent),
+            LogName::Link => named_reason(link_named(session, &session.link()[n])),
+            LogName::Lane => named_reason(lane_named(session, &session.lane()[n])),
+            LogName::Pager => pager_reason(session, n, &session.pager()[n]),
+        }
+    }
+
+    /// Goes on behind the record of this number, misshapen or not.
+    pub(crate) fn step(&mut self, session: &Session, log: LogName, n: usize)
+        requires limits { IsSession session.now }
+        requires within { n < log_length session.now log }
+        requires at { IsAt session.now log n self.old }
+        ensures { IsAt session.now log (n + 1) self.new }
+    {
+        match log {
+            LogName::Guest => self.phases = phases_after(&session.guest()[n], self.phases),
+            LogName::Source => mark(&mut self.sent, &session.source()[n]),
+            LogName::Link | LogName::Lane | LogName::Pager => {}
+        }
     }
 }

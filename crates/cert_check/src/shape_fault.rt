@@ -5,7 +5,8 @@ ghost use Rattle.audit_model.specs.Shape.{IsRightShape};
 ghost use Rattle.cert_check.specs.ShapeFaults.{AreShapeFaults};
 ghost use Rattle.cert_check.specs.Verdicts.{IsShapeFault};
 
-use crate::passes::{fault_of, push_faults_of};
+use crate::log_passes::{first_found, push_found};
+use crate::passes::Pass;
 use crate::verdict::ShapeFault;
 use migration_types::{Session, logs};
 use std::alloc::{AllocError, Global};
@@ -16,9 +17,9 @@ pub fn shape(alloc: Global, session: &Session) -> Result<Option<ShapeFault>, All
     ensures { IfOk result (λ fault. MatchOption fault (IsRightShape session.now) (IsShapeFault session.now)) }
 {
     session.keeps_limits();
+    let mut pass = Pass::begin(alloc, session)?;
     for log in logs() {
-        let found = fault_of(alloc, session, log)?;
-        if let Some(fault) = found {
+        if let Some(fault) = first_found(session, log, &mut pass) {
             return Ok(Some(fault));
         }
     }
@@ -32,9 +33,10 @@ pub fn shape_faults(alloc: Global, session: &Session) -> Result<Vec<ShapeFault>,
     ensures { IfOk result (λ found. AreShapeFaults session.now found.items) }
 {
     session.keeps_limits();
+    let mut pass = Pass::begin(alloc, session)?;
     let mut found = Vec::new(alloc);
     for log in logs() {
-        push_faults_of(alloc, session, log, &mut found)?;
+        push_found(session, log, &mut pass, &mut found)?;
     }
     Ok(found)
 }

@@ -1,6 +1,4 @@
-use Rattle.std.proofs.Common.{◌∷◌, [], ◌++◌, ◌∙◌, sym, subst}
-use Rattle.std.specs.Prelude.{List, Some}
-use Rattle.cert_check.specs.declared.verdict.ShapeFault.{ShapeFault}
+use Rattle.std.proofs.Common.{◌∙◌, sym, subst}
 use Rattle.cert_check.specs.inner.FaultsUpTo.{AreFaultsUpTo}
 use Rattle.cert_check.proofs.FaultsUpTo.{no_more, one_more}
 use Rattle.cert_check.proofs.log_passes.push_if.Goals as goal
