@@ -6,8 +6,8 @@ use Rattle.migration_types.specs.declared.records.GuestRec.TheVariants.{See}
 use Rattle.migration_types.specs.Receipts.{Name}
 use Rattle.migration_types.specs.Sessions.{Recorded}
 use Rattle.audit_model.specs.declared.reasons.ShapeReason.{ShapeReason}
-use Rattle.audit_model.specs.declared.reasons.ShapeReason.TheVariants.{Start}
 use Rattle.audit_model.specs.Shape.{is_right}
+use Rattle.audit_model.specs.WindowLaws.{StartsRight}
 use Rattle.page_facts.specs.PageFaults.{IsClean}
 use Rattle.page_facts.specs.FaultyPages.{IsFaultyPage}
 use Rattle.page_facts.specs.declared.faulty.FaultyPage.{FaultyPage}
@@ -16,7 +16,7 @@ use Rattle.session_story.specs.Subjects.{page_of}
 -- A page that misshapen records do not touch: the session starts as it must, its looks have the right shape, and each
 -- misshapen record is about another page.
 pub record IsApart (s : Recorded) (page : ℕ) : Type 0 where
-  pub starts : (name : Name) → is_right s Start name ≡ true
+  pub starts : StartsRight s
   pub looks : (reason : ShapeReason) (n placement : ℕ) → slice_get s.guest n ≡ Some (See placement) → is_right s reason (Guest, n) ≡ true
   pub others : (reason : ShapeReason) (name : Name) → is_right s reason name ≡ false → (other : ℕ) × (page_of s name ≡ Some other) × (other ≢ page)
 

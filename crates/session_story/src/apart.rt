@@ -97,19 +97,6 @@ fn unmarked(
     Ok(kept)
 }
 
-/// Returns the faulty pages that are not marked.
-fn faulty_unmarked(
-    alloc: Global,
-    session: &Session,
-    marks: &Table<bool>,
-) -> Result<Vec<FaultyPage>, AllocError>
-    requires { AreNotApart session.now marks.now }
-    ensures { IfOk result (λ found. AreFaultyApart session.now found.items) }
-{
-    let faulty = faulty_pages(&OneThread, alloc, session)?;
-    unmarked(alloc, &faulty, marks)
-}
-
 /// Returns each page of a session that has a fault and that no misshapen record touches, in the order of pages, with
 /// its first fault. A misshapen record touches the page that it is about; and one touches all pages that is of the
 /// start, looks at a placement, or is about no page. If the shape is right, these are all faulty pages.
@@ -120,8 +107,9 @@ pub fn faulty_apart(alloc: Global, session: &Session) -> Result<Vec<FaultyPage>,
     ensures { IfOk result (λ found. AreFaultyApart session.now found.items) }
 {
     let faults = shape_faults(alloc, session)?;
-    match marked(alloc, session, &faults)? {
-        Some(marks) => faulty_unmarked(alloc, session, &marks),
-        None => Ok(Vec::new(alloc)),
-    }
+    let Some(marks) = marked(alloc, session, &faults)? else {
+        return Ok(Vec::new(alloc));
+    };
+    let faulty = faulty_pages(&OneThread, alloc, session)?;
+    unmarked(alloc, &faulty, &marks)
 }
