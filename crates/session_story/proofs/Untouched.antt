@@ -1,5 +1,5 @@
 -- Which pages misshapen records touch, and the faulty ones among the others.
-use Rattle.std.proofs.Common.{not, ◌||◌, cond, eqb, leb, ◌≡◌, ◌≢◌, ℕ, ◌+◌, ◌<◌, ◌≤◌, Bool, true, false, List, [], ◌∷◌, ◌++◌, length, Option, Some, None, refl, sym, ap, ◌∙◌, subst, arith}
+use Rattle.std.proofs.Common.{not, ◌||◌, cond, eqb, leb, ◌≡◌, ◌≢◌, ℕ, ◌<◌, ◌≤◌, Bool, true, false, List, [], ◌∷◌, ◌++◌, length, Option, Some, None, refl, sym, ap, ◌∙◌, subst, arith}
 use Rattle.std.specs.Prelude.{Contains, MatchOption, filter, slice_get}
 use Rattle.std.specs.List.{All}
 use Rattle.std.proofs.lemmas.Bool.{eqb-false, eqb-true, leb-false, leb-true}
@@ -20,9 +20,9 @@ use Rattle.page_store.specs.Tables.{Values, IsWith, all_at, pages_of, values, wi
 use Rattle.cert_check.specs.ShapeFaults.{AreShapeFaults, IsMisshapen, name_of}
 use Rattle.cert_check.specs.declared.verdict.ShapeFault.{ShapeFault}
 use Rattle.session_story.specs.Apart.{AreFaultyApart, IsApart}
-use Rattle.session_story.specs.Explained.{IsLeastOf, lesser}
+use Rattle.session_story.specs.Explained.{IsLeastOf}
 use Rattle.session_story.specs.Subjects.{page_of}
-use Rattle.session_story.specs.inner.Touched.{AreNotApart, AreTouched, Leaves, NoneApart, is_look, looks, page_touched}
+use Rattle.session_story.specs.inner.Touched.{AreNotApart, AreTouched, Leaves, NoneApart, is_look, looks, page_touched, lesser}
 use Rattle.session_story.proofs.Reaching.{within_below}
 
 abbrev named : LogName → ℕ → Name

@@ -1,5 +1,5 @@
 -- The story of the report on a session.
-use Rattle.std.specs.Prelude.{◌≡◌, ◌≢◌, ◌⊎◌, ℕ, ◌+◌, ◌<◌, ◌≤◌, Bool, true, false, not, ◌&&◌, nat_le, is_some, if◌then◌else◌, Decides, List, [], Contains, length, MatchOption, Option, Some, None, slice_get, slice_index}
+use Rattle.std.specs.Prelude.{◌≡◌, ◌≢◌, ◌⊎◌, ℕ, ◌+◌, ◌<◌, ◌≤◌, Bool, true, false, not, ◌&&◌, nat_le, is_some, Decides, List, [], Contains, length, MatchOption, Option, Some, None, slice_get, slice_index}
 use Rattle.std.specs.List.{All}
 use Rattle.migration_types.specs.declared.records.LogName.{LogName}
 use Rattle.migration_types.specs.declared.records.LogName.TheVariants.{Guest, Source}
@@ -237,11 +237,6 @@ pub record IsShapeStory (s : Recorded) (fault : ShapeFault) (t : ShapeStory) : T
   pub is_first : IsFirstFault s fault.reason (fault.log, fault.place)
   pub handover : IsHandover s t.handover
   pub sent : t.sent ≡ sent_before s (fault.log, fault.place)
-
--- the page whose fault has the lesser line, or the first if the lines are the same
-abbrev pub lesser : Option FaultyPage → FaultyPage → FaultyPage
-lesser None page = page
-lesser (Some one) page = if nat_le one.line page.line then one else page
 
 -- of these pages with a fault, the one whose fault has the least line
 pub record IsLeastOf (found : List FaultyPage) (f : FaultyPage) : Type 0 where

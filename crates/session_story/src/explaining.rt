@@ -6,7 +6,8 @@ ghost use Rattle.page_facts.specs.FaultyPages.{AreManyFaulty};
 ghost use Rattle.audit_report.specs.Reports.{IsReport};
 ghost use Rattle.session_story.specs.Apart.{AreFaultyApart};
 ghost use Rattle.session_story.specs.Counted.{IsCounts};
-ghost use Rattle.session_story.specs.Explained.{AreMoreFaulty, IsApartStory, IsExplanation, IsLeastOf, lesser};
+ghost use Rattle.session_story.specs.Explained.{AreMoreFaulty, IsApartStory, IsExplanation, IsLeastOf};
+ghost use Rattle.session_story.specs.inner.Touched.{lesser};
 
 use crate::faults::{fault_at, shape_at};
 use crate::waits::circle_of;

@@ -1,5 +1,5 @@
--- The pages that misshapen records touch.
-use Rattle.std.specs.Prelude.{◌≡◌, ◌≢◌, ℕ, ◌<◌, Bool, true, false, not, ◌||◌, List, Contains, Option, Some, None, slice_get, if◌then◌else◌}
+-- The pages that misshapen records touch, and the least of the faulty ones among the others.
+use Rattle.std.specs.Prelude.{◌≡◌, ◌≢◌, ℕ, Bool, true, false, not, ◌||◌, nat_le, List, Contains, Option, Some, None, slice_get, if◌then◌else◌}
 use Rattle.std.specs.List.{All}
 use Rattle.migration_types.specs.declared.records.LogName.TheVariants.{Guest}
 use Rattle.migration_types.specs.declared.records.GuestRec.{GuestRec}
@@ -8,6 +8,7 @@ use Rattle.migration_types.specs.Receipts.{Name}
 use Rattle.migration_types.specs.Sessions.{Recorded}
 use Rattle.audit_model.specs.declared.reasons.ShapeReason.TheVariants.{Start}
 use Rattle.audit_model.specs.Shape.{is_right, passes}
+use Rattle.page_facts.specs.declared.faulty.FaultyPage.{FaultyPage}
 use Rattle.page_store.specs.Tables.{Values, pages_of, values}
 use Rattle.cert_check.specs.ShapeFaults.{name_of}
 use Rattle.cert_check.specs.declared.verdict.ShapeFault.{ShapeFault}
@@ -48,3 +49,8 @@ pub record AreNotApart (s : Recorded) (marks : Values Bool) : Type 0 where
 -- no page is apart
 abbrev pub NoneApart : Recorded → Type 0
 NoneApart s = (page : ℕ) → IsApart s page → ⊥
+
+-- the page whose fault has the lesser line, or the first if the lines are the same
+abbrev pub lesser : Option FaultyPage → FaultyPage → FaultyPage
+lesser None page = page
+lesser (Some one) page = if nat_le one.line page.line then one else page

@@ -1,7 +1,8 @@
 use Rattle.std.proofs.Common.{◌+◌, List, [], ◌∷◌, ◌++◌, take, sym, ap, ◌∙◌, subst}
 use Rattle.std.proofs.lemmas.List.{take_more}
 use Rattle.page_facts.specs.declared.faulty.FaultyPage.{FaultyPage}
-use Rattle.session_story.specs.Explained.{IsLeastOf, lesser}
+use Rattle.session_story.specs.Explained.{IsLeastOf}
+use Rattle.session_story.specs.inner.Touched.{lesser}
 use Rattle.session_story.proofs.Untouched.{least_more}
 use Rattle.session_story.proofs.explaining.least_of.Goals as goal
 
