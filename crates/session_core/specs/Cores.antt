@@ -1,11 +1,12 @@
 -- The core: what it holds, and what that is in the events.
-use Rattle.std.specs.Prelude.{false, List, []}
+use Rattle.std.specs.Prelude.{◌≡◌, false, List, [], Some}
+use Rattle.migration_events.specs.declared.events.Event.{Event}
 use Rattle.migration_types.specs.Receipts.{Name}
 use Rattle.migration_types.specs.declared.size.Size.TheVariants.{Small}
 use Rattle.migration_types.specs.declared.version.Version.TheVariants.{One}
 use Rattle.session_core.specs.States.{home_of, away_of}
 use Rattle.migration_model.specs.Books.{Books, Before, After, Recording}
-use Rattle.migration_model.specs.Events.{start}
+use Rattle.migration_model.specs.Events.{start, run}
 use Rattle.session_core.specs.declared.phase.Phase.{Phase}
 use Rattle.session_core.specs.declared.phase.Phase.TheVariants.{Before as BeforeHalt, After as AfterHalt, Halting}
 
@@ -34,3 +35,8 @@ pub record Cored : Type 0 where
 
 abbrev pub machine_of : Cored → Recording
 machine_of core = machine core.phase core.order
+
+-- events that come to these books, none of them refused, and their recorded order
+pub record RunsTo (events : List Event) (first : Recording) (books : Books) : Type 0 where
+  pub order : List Name
+  pub runs : run events first ≡ Some (record { books = books; order = order })

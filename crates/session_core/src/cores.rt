@@ -74,15 +74,6 @@ impl<'a> Core<'a> {
         self.phase.session()
     }
 
-    /// Returns what was recorded. Copies nothing but the initial pages. Fails only if memory runs out.
-    pub(crate) fn into_session(self) -> Result<Session, AllocError>
-        ensures recorded { IfOk result (λ s. s ≡ session_of (machine_of self.entry).books) }
-        ensures promised { IfOk result (λ s. IsPromised s (machine_of self.entry).order) }
-    {
-        self.keeps_promise();
-        self.phase.into_session()
-    }
-
     /// States the invariant of every core: some events reach it from a script's start, so what it has recorded is
     /// faultless, and its recorded order is a merging of it. Runs nothing.
     pub fn keeps_promise(&self)
