@@ -1,5 +1,7 @@
 -- The lines of a session, list by list.
-use Rattle.std.proofs.Common.{◌≡◌, ℕ, List, [], ◌∷◌, ◌++◌, length, map, refl, ap, ◌∙◌, append_assoc}
+use Rattle.std.proofs.Common.{◌≡◌, ◌<◌, ℕ, List, Option, arith, length-append, [], ◌∷◌, ◌++◌, length, map, refl, ap, subst, ◌∙◌, append_assoc}
+use Rattle.text_access.specs.Written.{AppendsPart}
+use Rattle.text_access.proofs.Fronts.{part_before}
 use Rattle.text_lines.specs.Text.{ended}
 use Rattle.std.specs.Fmt.{decimal}
 use Rattle.migration_types.specs.declared.records.LaneRec.{LaneRec}
@@ -11,7 +13,7 @@ use Rattle.session_grammar.specs.Grammar.{header, pages_key, cells_key, init_key
 use Rattle.session_grammar.proofs.Laws.{pager_lines, lane_lines, link_lines, source_lines, guest_lines}
 use Rattle.session_grammar.proofs.Sections.{ended_then}
 
-two_ended : (xs ys : List (List ℕ)) → ended xs ++ ended ys ≡ ended (xs ++ ys)
+pub two_ended : (xs ys : List (List ℕ)) → ended xs ++ ended ys ≡ ended (xs ++ ys)
 two_ended xs ys = ended_then [] (ended xs) (ended xs ++ ended ys) xs ys refl refl
 
 all_ended : (h a b c d l e z : List (List ℕ)) → ended h ++ ended a ++ ended b ++ ended c ++ ended d ++ ended l ++ ended e ++ ended z ≡ ended (h ++ a ++ b ++ c ++ d ++ l ++ e ++ z)
@@ -53,3 +55,51 @@ pub session_written : (s : Recorded) → ended (start_lines s) ++ ended (counted
 session_written s =
     all_ended (start_lines s) (counted init_key page_line s.init []) (counted guest_key guest_line s.guest []) (counted source_key source_line s.source []) (counted link_key link_line s.link []) (with_lane s.version s.lane []) (counted pager_key pager_line s.pager []) (closing ∷ [])
     ∙ ap ended (joined s)
+
+-- the text up to the end of each list
+abbrev pub to_init : Recorded → List ℕ
+to_init s = ended (start_lines s) ++ ended (counted init_key page_line s.init [])
+
+abbrev pub to_guest : Recorded → List ℕ
+to_guest s = to_init s ++ ended (counted guest_key guest_line s.guest [])
+
+abbrev pub to_source : Recorded → List ℕ
+to_source s = to_guest s ++ ended (counted source_key source_line s.source [])
+
+abbrev pub to_link : Recorded → List ℕ
+to_link s = to_source s ++ ended (counted link_key link_line s.link [])
+
+abbrev pub to_lane : Recorded → List ℕ
+to_lane s = to_link s ++ ended (with_lane s.version s.lane [])
+
+abbrev pub to_pager : Recorded → List ℕ
+to_pager s = to_lane s ++ ended (counted pager_key pager_line s.pager [])
+
+-- a part of such a front is a part of the text
+module _ (old new : Option (List ℕ)) (s : Recorded) where
+  pub pager_part : AppendsPart old new (to_pager s) → AppendsPart old new (ended (session_lines s))
+  pager_part part = subst (AppendsPart old new) (session_written s) (part_before old new (to_pager s) (ended (closing ∷ [])) part)
+
+  pub lane_part : AppendsPart old new (to_lane s) → AppendsPart old new (ended (session_lines s))
+  lane_part part = pager_part (part_before old new (to_lane s) (ended (counted pager_key pager_line s.pager [])) part)
+
+  pub link_part : AppendsPart old new (to_link s) → AppendsPart old new (ended (session_lines s))
+  link_part part = lane_part (part_before old new (to_link s) (ended (with_lane s.version s.lane [])) part)
+
+  pub source_part : AppendsPart old new (to_source s) → AppendsPart old new (ended (session_lines s))
+  source_part part = link_part (part_before old new (to_source s) (ended (counted link_key link_line s.link [])) part)
+
+  pub guest_part : AppendsPart old new (to_guest s) → AppendsPart old new (ended (session_lines s))
+  guest_part part = source_part (part_before old new (to_guest s) (ended (counted source_key source_line s.source [])) part)
+
+  pub init_part : AppendsPart old new (to_init s) → AppendsPart old new (ended (session_lines s))
+  init_part part = guest_part (part_before old new (to_init s) (ended (counted guest_key guest_line s.guest [])) part)
+
+  pub start_part : AppendsPart old new (ended (start_lines s)) → AppendsPart old new (ended (session_lines s))
+  start_part part = init_part (part_before old new (ended (start_lines s)) (ended (counted init_key page_line s.init [])) part)
+
+-- its first line is not empty
+pub some_start : (s : Recorded) → 0 < length (ended (start_lines s))
+some_start s =
+    let rest = 10 ∷ ended ((pages_key ++ decimal s.geometry.pages) ∷ (cells_key ++ decimal s.geometry.cells) ∷ []) in
+    omega (arith, length-append (header s.version s.geometry.size) rest)
