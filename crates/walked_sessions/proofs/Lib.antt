@@ -1,10 +1,8 @@
-pub mod Changing
 pub mod Meeting
 pub mod OneRecording
 pub mod Passing
 pub mod Raws
 pub mod Refusing
-pub mod Walked
 pub mod Found
 pub mod Logging
 pub mod Making

@@ -38,7 +38,7 @@ use Rattle.recorder_files.specs.Raw.{raw_source_line, raw_pager_line, IsRawSourc
 use Rattle.recorder_files.specs.Told.{lane_messages, lane_packet, link_messages, link_packet, numbered_pager, numbered_source, request, told_from}
 use Rattle.recorder_files.proofs.Elements.{element}
 use Rattle.walked_sessions.specs.Walks.{AreNumbered, Bytes, IsDown, IsNumberOf, IsRecordingOf, IsUp, lane_delivery, link_delivery}
-use Rattle.walked_sessions.proofs.Changing.{one_form, told_same}
+use Rattle.walked_sessions.proofs.Refusing.{one_form, told_same}
 use Rattle.walked_sessions.proofs.Raws.{pager_form, same_lane_packet, same_link_packet, same_numbered_pager, same_numbered_source, same_pager, same_request, same_source, source_form}
 
 -- ---- a sum over some of a list

@@ -2,7 +2,6 @@
 pub mod Meeting
 pub mod Passing
 pub mod Refusing
-pub mod Walking
 pub mod Fitting
 pub mod Kept
 pub mod Needs

@@ -1,9 +1,9 @@
 //! A place among the messages that were noted.
 
 ghost use Rattle.std.specs.Prelude.{◌≡◌, ◌↔◌, IfErr, IfOk, IsTrue, length, slice_get};
-ghost use Rattle.walked_sessions.specs.inner.Passing.{IsNotNext, Passes, number_or_lost};
+ghost use Rattle.walked_sessions.specs.inner.Passing.{IsNotNext, IsOver, Passes, number_or_lost};
 
-use recorder_files::{Deliveries, LOST, Message, TakeRefusal};
+use recorder_files::{Delivered, LOST, Message, TakeRefusal};
 
 /// Returns whether two messages are the same.
 fn is_same(one: Message, other: Message) -> bool
@@ -37,20 +37,25 @@ pub(crate) struct Cursor<'a> {
 }
 
 impl<'a> Cursor<'a> {
-    /// Returns a cursor at a place.
-    pub(crate) fn new(
-        messages: &'a [Message],
-        numbers: &'a [Option<u64>],
-        place: usize,
-    ) -> Cursor<'a>
-        ensures messages { result.messages.now ≡ messages.now }
-        ensures numbers { result.numbers.now ≡ numbers.now }
-        ensures place { result.place ≡ place }
+    /// Returns a cursor at a place among the messages of the link.
+    pub(crate) fn of_link(messages: &'a Delivered, place: usize) -> Cursor<'a>
+        ensures { IsOver result messages.now.link_messages.items messages.now.link.numbers.items place }
     {
         Cursor {
-            messages,
-            numbers,
+            messages: messages.link_messages.as_slice(),
+            numbers: messages.link.numbers.as_slice(),
             place,
+        }
+    }
+
+    /// Returns a cursor at the first message of the lane.
+    pub(crate) fn of_lane(messages: &'a Delivered) -> Cursor<'a>
+        ensures { IsOver result messages.now.lane_messages.items messages.now.lane.numbers.items 0 }
+    {
+        Cursor {
+            messages: messages.lane_messages.as_slice(),
+            numbers: messages.lane.numbers.as_slice(),
+            place: 0,
         }
     }
 

@@ -1,14 +1,14 @@
 //! The files of a recording's logs.
 
-ghost use Rattle.std.specs.Prelude.{◌≡◌, ◌↔◌, ℕ, List, [], Option, IfOk, IfErr, IsTrue};
+ghost use Rattle.std.specs.Prelude.{◌≡◌, ℕ, List, [], Option, IfOk, IfErr};
 ghost use Rattle.recordings.specs.Recordings.{IsMachine};
 ghost use Rattle.recordings.specs.Wide.{extent_of};
 ghost use Rattle.migration_types.specs.declared.records.LogName.{LogName as Log};
 ghost use Rattle.recorder_files.specs.declared.lines.Party.{Party as Writer};
 ghost use Rattle.recorder_files.specs.Logs.{AreBegun};
 ghost use Rattle.walked_sessions.specs.Faults.{IsOpenFault};
-ghost use Rattle.walked_sessions.specs.Walks.{IsWhole, TellLog};
 ghost use Rattle.walked_sessions.specs.inner.Refusing.{IsFaultOf, IsTakeFault};
+ghost use Rattle.walked_sessions.specs.inner.Meeting.{WalksLog};
 
 use migration_types::LogName;
 use recorder_files::{
@@ -90,7 +90,7 @@ pub(crate) fn take_log<F: LogFiles, K: LogRecord, S, T: RecordTaker<K, S>>(
     onto: &mut S,
 ) -> Result<bool, WalkFault>
     requires { IsMachine (extent_of machine.now) }
-    ensures taken { IfOk result (λ whole. (records : List K) × (tell : TellLog K.line (K.IsOf machine.now) (Writer.Of log) (F.bytes_of files.now log) records) × (IsTrue whole ↔ IsWhole tell) × ((first : T) (from : S) → T.Takes first from taker.old onto.old [] → T.Takes first from taker.new onto.new records)) }
+    ensures taken { IfOk result (WalksLog K.line (K.IsOf machine.now) log (F.bytes_of files.now) (λ records. (first : T) (from : S) → T.Takes first from taker.old onto.old [] → T.Takes first from taker.new onto.new records)) }
     ensures refused { IfErr result (IsTakeFault K.line (K.IsOf machine.now) T.Takes T.IsUnfit log (Writer.Of log) (F.bytes_of files.now log) taker.old onto.old unfit) }
 {
     let opened = match files.open(alloc, log) {

@@ -2,11 +2,11 @@
 
 ghost use Rattle.std.specs.Prelude.{◌≡◌, ◌⊎◌, true, IfErr, IfOk};
 ghost use Rattle.recorder_files.specs.Told.{lane_packet, link_packet, request};
-ghost use Rattle.walked_sessions.specs.inner.Meeting.{MeetsGuest, MeetsSource, MeetsLink, MeetsLane, MeetsPager};
+ghost use Rattle.walked_sessions.specs.inner.Meeting.{MeetsAll, MeetsCarrier, MeetsPager, MeetsSource};
 ghost use Rattle.walked_sessions.specs.inner.Passing.{IsNotNext, Passes};
 
 use crate::cursors::Cursor;
-use recorder_files::{RawPager, RawSource, RecordTaker, TakeRefusal};
+use recorder_files::{LogRecord, Message, RawPager, RawSource, RecordTaker, TakeRefusal};
 use recordings::{Visitor, Wide, WideGuest, WideLane, WideLink};
 
 /// The guest's records.
@@ -14,7 +14,9 @@ use recordings::{Visitor, Wide, WideGuest, WideLane, WideLink};
 pub(crate) struct GuestTaker;
 
 impl<V: Visitor> RecordTaker<WideGuest, V> for GuestTaker {
-    ghost Takes = { λ first from now onto records. MeetsGuest V.Met from onto records };
+    ghost use Rattle.recordings.specs.declared.wide.Wide.{Wide};
+
+    ghost Takes = { λ first from now onto records. MeetsAll V.Met Wide.Guest from onto records };
 
     ghost IsUnfit = { λ taker number rec. ⊥ };
 
@@ -46,42 +48,88 @@ impl<'a, V: Visitor> RecordTaker<RawSource, V> for SourceTaker<'a> {
     }
 }
 
+/// A record of the link or of the lane: of a log that is what its own files tell, or the deliveries of messages.
+pub(crate) trait CarrierRecord: LogRecord {
+    ghost use Rattle.recorder_files.specs.declared.delivering.Message.{Message as Sent};
+    ghost use Rattle.recordings.specs.declared.wide.Wide.{Wide as OfAny};
+
+    /// The record, as one of any log.
+    ghost wide: { Self → OfAny };
+
+    /// The record for the delivery of a message.
+    ghost delivery: { Sent → Self };
+
+    /// Returns the record, as one of any log.
+    fn wide(self) -> Wide
+        ensures { result ≡ wide self };
+
+    /// Returns the record for the delivery of a message.
+    fn delivery(message: Message) -> Self
+        ensures { result ≡ delivery message };
+}
+
+impl CarrierRecord for WideLink {
+    ghost use Rattle.recordings.specs.declared.wide.Wide.{Wide};
+    ghost use Rattle.walked_sessions.specs.inner.Meeting.{wide_link_delivery};
+
+    ghost wide = { Wide.Link };
+
+    ghost delivery = { wide_link_delivery };
+
+    #[inline(always)]
+    fn wide(self) -> Wide {
+        Wide::Link(self)
+    }
+
+    #[inline(always)]
+    fn delivery(message: Message) -> WideLink {
+        match message {
+            Message::Down { sent, .. } => WideLink::Down { sending: sent },
+            Message::Up { sent, .. } => WideLink::Up { asking: sent },
+        }
+    }
+}
+
+impl CarrierRecord for WideLane {
+    ghost use Rattle.recordings.specs.declared.wide.Wide.{Wide};
+    ghost use Rattle.walked_sessions.specs.inner.Meeting.{wide_lane_delivery};
+
+    ghost wide = { Wide.Lane };
+
+    ghost delivery = { wide_lane_delivery };
+
+    #[inline(always)]
+    fn wide(self) -> Wide {
+        Wide::Lane(self)
+    }
+
+    #[inline(always)]
+    fn delivery(message: Message) -> WideLane {
+        match message {
+            Message::Down { sent, .. } | Message::Up { sent, .. } => {
+                WideLane::Down { sending: sent }
+            }
+        }
+    }
+}
+
 /// The records of the own files of the link or of the lane. There may be none if a record of another log takes a message without
 /// them.
 #[derive(Clone, Copy)]
 pub(crate) struct CarrierTaker {
     pub(crate) is_told: bool,
-    pub(crate) is_met: bool,
 }
 
-impl<V: Visitor> RecordTaker<WideLink, V> for CarrierTaker {
-    ghost Takes = { λ first from now onto records. MeetsLink V.Met first from now onto records };
+impl<K: CarrierRecord, V: Visitor> RecordTaker<K, V> for CarrierTaker {
+    ghost Takes = { λ first from now onto records. MeetsCarrier V.Met K.wide first from now onto records };
 
     ghost IsUnfit = { λ taker number rec. taker.is_told ≡ true };
 
-    fn take(&mut self, onto: &mut V, number: u64, rec: WideLink) -> Result<(), TakeRefusal> {
+    fn take(&mut self, onto: &mut V, number: u64, rec: K) -> Result<(), TakeRefusal> {
         if self.is_told {
             return Err(TakeRefusal::Unfit);
         }
-        self.is_met = true;
-        match onto.record(number, Wide::Link(rec)) {
-            Ok(()) => Ok(()),
-            Err(_) => Err(TakeRefusal::Memory),
-        }
-    }
-}
-
-impl<V: Visitor> RecordTaker<WideLane, V> for CarrierTaker {
-    ghost Takes = { λ first from now onto records. MeetsLane V.Met first from now onto records };
-
-    ghost IsUnfit = { λ taker number rec. taker.is_told ≡ true };
-
-    fn take(&mut self, onto: &mut V, number: u64, rec: WideLane) -> Result<(), TakeRefusal> {
-        if self.is_told {
-            return Err(TakeRefusal::Unfit);
-        }
-        self.is_met = true;
-        match onto.record(number, Wide::Lane(rec)) {
+        match onto.record(number, rec.wide()) {
             Ok(()) => Ok(()),
             Err(_) => Err(TakeRefusal::Memory),
         }

@@ -1,23 +1,23 @@
 //! A recording, gone through as the files of its logs are read.
 
-ghost use Rattle.std.specs.Prelude.{◌≡◌, ◌↔◌, [], false, IfErr, IfOk, IsTrue, OnOk, length, map};
+ghost use Rattle.std.specs.Prelude.{◌≡◌, ◌↔◌, [], false, IfErr, IfOk, IsTrue, OnOk, length};
 ghost use Rattle.migration_types.specs.Sessions.{Recorded};
 ghost use Rattle.recordings.specs.Recordings.{IsMachine};
-ghost use Rattle.recordings.specs.Seen.{BeforeGuest, BeforeLane, BeforePager, with_init};
-ghost use Rattle.recordings.specs.Wide.{extent_of, init_of, lane_of, link_of};
+ghost use Rattle.recordings.specs.Seen.{BeforeGuest, with_init};
+ghost use Rattle.recordings.specs.Wide.{extent_of, init_of};
 ghost use Rattle.recorder_files.specs.declared.noting.Delivered.{Delivered as Noted};
 ghost use Rattle.walked_sessions.specs.Faults.{IsWalkFault};
-ghost use Rattle.walked_sessions.specs.Walks.{HasNoHole, WalksFiles, lane_delivery, link_delivery};
-ghost use Rattle.walked_sessions.specs.inner.Refusing.{IsTaking, IsTakingOne};
-ghost use Rattle.walked_sessions.specs.inner.Walking.{WalksGuest, WalksLane, WalksLink, WalksPager, WalksSource, begun_with, with_lane_log, with_link_log};
+ghost use Rattle.walked_sessions.specs.Walks.{HasNoHole, WalksFiles};
+ghost use Rattle.walked_sessions.specs.inner.Meeting.{MeetsAll, WalksCarrier, WalksGuest, WalksPager, WalksSource, begun_with};
+ghost use Rattle.walked_sessions.specs.inner.Refusing.{IsCarrierFault, IsTaking, IsTakingOne};
 
 use crate::cursors::Cursor;
 use crate::files::{LogFiles, WalkFault, take_log};
 use crate::noting::Messages;
-use crate::takers::{CarrierTaker, GuestTaker, PagerTaker, SourceTaker};
+use crate::takers::{CarrierRecord, CarrierTaker, GuestTaker, PagerTaker, SourceTaker};
 use migration_types::LogName;
 use recorder_files::{Delivered, Message, RawPager, RawSource};
-use recordings::{Visitor, Wide, WideGuest, WideInit, WideLane, WideLink, WideMachine};
+use recordings::{Visitor, WideGuest, WideInit, WideLane, WideLink, WideMachine};
 use std::alloc::{AllocError, Global};
 
 /// Meets an initial page.
@@ -54,7 +54,7 @@ fn walk_guest<F: LogFiles, V: Visitor>(
     visitor: &mut V,
 ) -> Result<bool, WalkFault>
     requires { IsMachine (extent_of machine.now) }
-    ensures walked { IfOk result (λ whole. WalksGuest V.Met machine.now (F.bytes_of files.now) visitor.old visitor.new whole) }
+    ensures walked { IfOk result (WalksGuest V.Met machine.now (F.bytes_of files.now) visitor.old visitor.new) }
     ensures refused { IfErr result (λ fault. (messages : Noted) → IsWalkFault machine.now (F.bytes_of files.now) messages fault) }
 {
     let mut taker = GuestTaker;
@@ -78,15 +78,11 @@ fn walk_source<F: LogFiles, V: Visitor>(
     visitor: &mut V,
 ) -> Result<bool, WalkFault>
     requires { IsMachine (extent_of machine.now) }
-    ensures walked { IfOk result (λ whole. WalksSource V.Met machine.now (F.bytes_of files.now) messages.now visitor.old visitor.new whole) }
+    ensures walked { IfOk result (WalksSource V.Met machine.now (F.bytes_of files.now) messages.now visitor.old visitor.new) }
     ensures refused { IfErr result (IsWalkFault machine.now (F.bytes_of files.now) messages.now) }
 {
     let mut taker = SourceTaker {
-        link: Cursor::new(
-            messages.link_messages.as_slice(),
-            messages.link.numbers.as_slice(),
-            messages.packets,
-        ),
+        link: Cursor::of_link(messages, messages.packets),
     };
     let whole = take_log::<F, RawSource, V, SourceTaker<'_>>(
         alloc,
@@ -135,118 +131,45 @@ fn own_log(log: LogName, messages: &[Message], place: usize) -> WalkFault
     WalkFault::Changed
 }
 
-/// Returns the record of the link for the delivery of a message.
-fn link_delivery(message: Message) -> WideLink
-    ensures { link_of result ≡ link_delivery message }
-{
-    match message {
-        Message::Down { sent, .. } => WideLink::Down { sending: sent },
-        Message::Up { sent, .. } => WideLink::Up { asking: sent },
-    }
-}
-
-/// Meets the deliveries of the link.
-fn walk_link_deliveries<V: Visitor>(
+/// Meets the deliveries of the link or of the lane.
+fn walk_deliveries<K: CarrierRecord, V: Visitor>(
     deliveries: &[Message],
     visitor: &mut V,
 ) -> Result<(), AllocError>
-    ensures { OnOk result ((d : Recorded) → BeforeLane d → d.link ≡ [] → V.Met visitor.old d → V.Met visitor.new (with_link_log d (map link_delivery deliveries.now))) }
+    ensures { OnOk result (MeetsAll V.Met (λ m. K.wide (K.delivery m)) visitor.old visitor.new deliveries.now) }
 {
     for i in 0..deliveries.len() {
-        visitor.record(i as u64, Wide::Link(link_delivery(deliveries[i])))?;
+        visitor.record(i as u64, K::delivery(deliveries[i]).wide())?;
     }
     Ok(())
 }
 
-/// Meets the link's records: those of its own files, or the deliveries. Returns whether its own files have no hole.
-fn walk_link<F: LogFiles, V: Visitor>(
+/// Meets the records of the link or of the lane: those of its own files, or the deliveries, if there are messages. Where its own
+/// files have a record beside these messages, the fault names the record that takes the message at the place, or the first. Returns
+/// whether its own files have no hole.
+fn walk_carrier<F: LogFiles, K: CarrierRecord, V: Visitor>(
     alloc: Global,
     machine: &WideMachine,
     files: &F,
-    messages: &Delivered,
-    visitor: &mut V,
-) -> Result<bool, WalkFault>
-    requires { IsMachine (extent_of machine.now) }
-    ensures walked { IfOk result (λ whole. WalksLink V.Met machine.now (F.bytes_of files.now) messages.now visitor.old visitor.new whole) }
-    ensures refused { IfErr result (IsWalkFault machine.now (F.bytes_of files.now) messages.now) }
-{
-    let mut taker = CarrierTaker {
-        is_told: are_some(messages.link_messages.as_slice()),
-        is_met: false,
-    };
-    let unfit = own_log(
-        LogName::Link,
-        messages.link_messages.as_slice(),
-        messages.packets,
-    );
-    let whole = take_log::<F, WideLink, V, CarrierTaker>(
-        alloc,
-        machine,
-        files,
-        LogName::Link,
-        unfit,
-        &mut taker,
-        visitor,
-    )?;
-    if taker.is_met {
-        return Ok(whole);
-    }
-    walk_link_deliveries(messages.link.log.as_slice(), visitor)?;
-    Ok(whole)
-}
-
-/// Returns the record of the lane for the delivery of a message.
-fn lane_delivery(message: Message) -> WideLane
-    ensures { lane_of result ≡ lane_delivery message }
-{
-    match message {
-        Message::Down { sent, .. } | Message::Up { sent, .. } => WideLane::Down { sending: sent },
-    }
-}
-
-/// Meets the deliveries of the lane.
-fn walk_lane_deliveries<V: Visitor>(
+    log: LogName,
+    messages: &[Message],
+    place: usize,
     deliveries: &[Message],
     visitor: &mut V,
-) -> Result<(), AllocError>
-    ensures { OnOk result ((d : Recorded) → BeforePager d → d.lane ≡ [] → V.Met visitor.old d → V.Met visitor.new (with_lane_log d (map lane_delivery deliveries.now))) }
-{
-    for i in 0..deliveries.len() {
-        visitor.record(i as u64, Wide::Lane(lane_delivery(deliveries[i])))?;
-    }
-    Ok(())
-}
-
-/// Meets the lane's records: those of its own files, or the deliveries. Returns whether its own files have no hole.
-fn walk_lane<F: LogFiles, V: Visitor>(
-    alloc: Global,
-    machine: &WideMachine,
-    files: &F,
-    messages: &Delivered,
-    visitor: &mut V,
 ) -> Result<bool, WalkFault>
     requires { IsMachine (extent_of machine.now) }
-    ensures walked { IfOk result (λ whole. WalksLane V.Met machine.now (F.bytes_of files.now) messages.now visitor.old visitor.new whole) }
-    ensures refused { IfErr result (IsWalkFault machine.now (F.bytes_of files.now) messages.now) }
+    ensures walked { IfOk result (WalksCarrier V.Met K.line (K.IsOf machine.now) log K.wide K.delivery (F.bytes_of files.now) messages.now deliveries.now visitor.old visitor.new) }
+    ensures refused { IfErr result (IsCarrierFault K.line (K.IsOf machine.now) log (F.bytes_of files.now) messages.now) }
 {
-    let mut taker = CarrierTaker {
-        is_told: are_some(messages.lane_messages.as_slice()),
-        is_met: false,
-    };
-    let unfit = own_log(LogName::Lane, messages.lane_messages.as_slice(), 0);
-    let whole = take_log::<F, WideLane, V, CarrierTaker>(
-        alloc,
-        machine,
-        files,
-        LogName::Lane,
-        unfit,
-        &mut taker,
-        visitor,
+    let is_told = are_some(messages);
+    let mut taker = CarrierTaker { is_told };
+    let unfit = own_log(log, messages, place);
+    let whole = take_log::<F, K, V, CarrierTaker>(
+        alloc, machine, files, log, unfit, &mut taker, visitor,
     )?;
-    if taker.is_met {
-        return Ok(whole);
+    if is_told {
+        walk_deliveries::<K, V>(deliveries, visitor)?;
     }
-    walk_lane_deliveries(messages.lane.log.as_slice(), visitor)?;
     Ok(whole)
 }
 
@@ -266,20 +189,12 @@ fn walk_pager<F: LogFiles, V: Visitor>(
     visitor: &mut V,
 ) -> Result<bool, WalkFault>
     requires { IsMachine (extent_of machine.now) }
-    ensures walked { IfOk result (λ whole. WalksPager V.Met machine.now (F.bytes_of files.now) messages.now visitor.old visitor.new whole) }
+    ensures walked { IfOk result (WalksPager V.Met machine.now (F.bytes_of files.now) messages.now visitor.old visitor.new) }
     ensures refused { IfErr result (IsWalkFault machine.now (F.bytes_of files.now) messages.now) }
 {
     let mut taker = PagerTaker {
-        link: Cursor::new(
-            messages.link_messages.as_slice(),
-            messages.link.numbers.as_slice(),
-            0,
-        ),
-        lane: Cursor::new(
-            messages.lane_messages.as_slice(),
-            messages.lane.numbers.as_slice(),
-            0,
-        ),
+        link: Cursor::of_link(messages, 0),
+        lane: Cursor::of_lane(messages),
         count: 0,
     };
     let whole = take_log::<F, RawPager, V, PagerTaker<'_>>(
@@ -332,8 +247,26 @@ pub fn walk_logs<F: LogFiles, V: Visitor>(
     walk_start(alloc, machine, init, visitor)?;
     let guest = walk_guest(alloc, machine, files, visitor)?;
     let source = walk_source(alloc, machine, files, delivered, visitor)?;
-    let link = walk_link(alloc, machine, files, delivered, visitor)?;
-    let lane = walk_lane(alloc, machine, files, delivered, visitor)?;
+    let link = walk_carrier::<F, WideLink, V>(
+        alloc,
+        machine,
+        files,
+        LogName::Link,
+        delivered.link_messages.as_slice(),
+        delivered.packets,
+        delivered.link.log.as_slice(),
+        visitor,
+    )?;
+    let lane = walk_carrier::<F, WideLane, V>(
+        alloc,
+        machine,
+        files,
+        LogName::Lane,
+        delivered.lane_messages.as_slice(),
+        0,
+        delivered.lane.log.as_slice(),
+        visitor,
+    )?;
     let pager = walk_pager(alloc, machine, files, delivered, visitor)?;
     Ok(are_all(guest, source, link, lane, pager))
 }

@@ -33,3 +33,9 @@ pub record IsNotNext (cursor : Cursor) (message : Option Message) : Type 0 where
   pub other : Message
   pub is : message ≡ Some other
   pub not_next : slice_get cursor.messages.now cursor.place ≢ Some other
+
+-- a cursor at these messages and these numbers
+pub record IsOver (c : Cursor) (messages : List Message) (numbers : List (Option ℕ)) (place : ℕ) : Type 0 where
+  pub messages_are : c.messages.now ≡ messages
+  pub numbers_are : c.numbers.now ≡ numbers
+  pub place_is : c.place ≡ place

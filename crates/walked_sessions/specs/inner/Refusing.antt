@@ -3,13 +3,14 @@ use Rattle.std.specs.Prelude.{◌≡◌, ◌⊎◌, ℕ, List, Option, Some, sli
 use Rattle.migration_types.specs.declared.records.LogName.{LogName}
 use Rattle.recorder_files.specs.declared.delivering.Message.{Message}
 use Rattle.recorder_files.specs.declared.lines.Party.{Party}
+use Rattle.recorder_files.specs.declared.lines.Party.TheVariants.{Of}
 use Rattle.recorder_files.specs.declared.taking.LogFault.{LogFault}
 use Rattle.recorder_files.specs.Logs.{Gathering}
 use Rattle.recorder_files.specs.Records.{IsUnfitAt}
 use Rattle.walked_sessions.specs.declared.files.WalkFault.{WalkFault}
 use Rattle.walked_sessions.specs.declared.files.WalkFault.TheVariants.{Log, OwnLog, Changed, Memory}
 use Rattle.walked_sessions.specs.Faults.{HasLogFault, IsMemory}
-use Rattle.walked_sessions.specs.Walks.{IsTakenBy}
+use Rattle.walked_sessions.specs.Walks.{Bytes, HasBoth, IsTakenBy}
 
 -- this fault of a log, or that memory was refused
 abbrev pub IsFaultOf : LogName → LogFault → WalkFault → Type 0
@@ -48,3 +49,10 @@ pub record IsTakingOne (log : LogName) (messages : List Message) (fault : WalkFa
   pub message : Message
   pub there : slice_get messages place ≡ Some message
   pub taking : IsTaking log message fault
+
+-- what is wrong with the log of a carrier, or that its files have a record beside these messages, or that memory was refused
+abbrev pub IsCarrierFault : {X : Type 0} → (X → List ℕ) → (X → Type 0) → LogName → Bytes → List Message → WalkFault → Type 0
+IsCarrierFault {X} line IsOf log bytes messages (Log other fault) = (other ≡ log) × HasLogFault line IsOf (Of log) (bytes log) fault
+IsCarrierFault {X} line IsOf log bytes messages (OwnLog other by n) = (other ≡ log) × HasBoth line IsOf (Of log) (bytes log) messages by n
+IsCarrierFault {X} line IsOf log bytes messages Changed = ⊥
+IsCarrierFault {X} line IsOf log bytes messages Memory = Unit {0}

@@ -15,7 +15,7 @@ returns-in-Ok-take_records-clause-taken g c =
     let log = c.args.log in
     let bytes = g.F.LogFiles.bytes_of c.args.files.now log in
     let t = c.in-Ok-take_records.ensures.taken (Of log) bytes (c.in-Ok-new.ensures.begun (Of log) bytes c.in-Ok.ensures.opened) in
-    (t.0, record { gathering = c.take_records.new.files; hole = c.in-Ok-take_records.hole; say = t.1 }, none_is c.in-Ok-take_records.hole c.is_none.result c.is_none.ensures, t.2)
+    record { records = t.0; tell = record { gathering = c.take_records.new.files; hole = c.in-Ok-take_records.hole; say = t.1 }; whole = none_is c.in-Ok-take_records.hole c.is_none.result c.is_none.ensures; is = t.2 }
 
 pub returns-clause-refused : goal.returns-clause-refused
 returns-clause-refused g c =

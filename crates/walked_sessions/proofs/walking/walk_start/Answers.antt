@@ -1,5 +1,5 @@
 use Rattle.std.proofs.Common.{take, refl}
-use Rattle.walked_sessions.specs.inner.Walking.{begun_with}
+use Rattle.walked_sessions.specs.inner.Meeting.{begun_with}
 use Rattle.walked_sessions.proofs.Meeting.{init_met}
 use Rattle.walked_sessions.proofs.walking.walk_start.Goals as goal
 

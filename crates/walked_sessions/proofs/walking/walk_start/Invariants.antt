@@ -1,5 +1,5 @@
 use Rattle.std.proofs.Common.{take}
-use Rattle.walked_sessions.specs.inner.Walking.{begun_with}
+use Rattle.walked_sessions.specs.inner.Meeting.{begun_with}
 use Rattle.walked_sessions.proofs.walking.walk_start.Given as goal
 
 abbrev pub invariant-loop-i : goal.invariant-loop-i
