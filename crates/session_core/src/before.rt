@@ -158,6 +158,9 @@ impl<'a> BeforeHalt<'a> {
         ensures full { IfErr result (λ e. e.1 ≡ CoreFault.LogFull → has_room (session_after (halted (home_of self.entry))) ≡ false) }
         ensures err { IfErr result (λ e. e.0 ≡ self.entry) }
     {
+        if let Err(fault) = self.guest.look_to_halt() {
+            return Err((self, fault));
+        }
         match PagerBook::new(self.alloc, self.script.geometry()) {
             Ok(pager) => self.halted(pager),
             Err(_) => Err((self, CoreFault::Memory)),
