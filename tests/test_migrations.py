@@ -11,16 +11,16 @@ Where a script has a lane, that brings the pages that were pushed, each of them 
 the page at the target, and the link all else; some of them are taken from the lane; and `audit` says that the session is clean.
 Over a link that loses and repeats nothing, the pager says at most twice that all is there: once, and once more if it looks just
 before the source learns of it. The connection of a link over TCP is one of the loopback address, which no other machine reaches.
-A guest whose log has no room is answered by log-full, at the source and at the target. Nothing waits for ever: each run ends within two minutes,
-beside the time for which its threads waited for a processor.
+A guest whose log has no room is answered by log-full, at the source and at the target. Nothing waits for ever, or goes round for two minutes
+of processor.
 """
+import contextlib
 import os
 import random
 import re
 import subprocess
-import time
+import tempfile
 
-import cases
 import pytest
 from cases import each, leave_out, right
 from guests import AFTER, BEFORE, guest_log, random_op, strays_from_the_script, wrong_read
@@ -30,37 +30,46 @@ from steps_model import Script, contents_of
 TOP = os.path.dirname(os.path.dirname(os.path.abspath(__file__)))
 
 
-def seconds():
-    """How long a run may take. One that waits for ever is waited for less where the test ends at its first fault."""
-    return 20 if cases.ends_at_first else 120
+# A run waits for ever where so many looks at it, each a second behind the one before, find that it has not run since, or where it has taken so
+# many seconds of processor.
+LOOKS, MOST = 5, 120
+TICK = os.sysconf("SC_CLK_TCK")
 
 
-def starved(number):
-    """For how many seconds the threads that a process has now have waited for a processor, in all: none where the system does not say."""
-    waited = 0
-    try:
-        for thread in os.listdir(f"/proc/{number}/task"):
-            with open(f"/proc/{number}/task/{thread}/schedstat", encoding="ascii") as file:
-                waited += int(file.read().split()[1])
-    except OSError:
-        pass
-    return waited / 1e9
+def stat_of(task):
+    """The state of a process, or of one of its threads, and for how many seconds it has run."""
+    with open(f"/proc/{task}/stat", encoding="latin-1") as file:
+        words = file.read().rpartition(")")[2].split()
+    return words[0], (int(words[11]) + int(words[12])) / TICK
+
+
+def has_run(number):
+    """For how many seconds a process has run, and whether one of its threads has a processor, waits for one, or for a disk."""
+    states = set()
+    for thread in os.listdir(f"/proc/{number}/task"):
+        with contextlib.suppress(OSError):
+            states.add(stat_of(f"{number}/task/{thread}")[0])
+    return stat_of(number)[1], not states.isdisjoint("RD")
 
 
 def ended(words, given, **how):
-    """What came of a program, as subprocess.run tells it. The time for which it waited for a processor is none of its own: on a machine that others
-    use too it may take longer."""
-    begun, longest = time.monotonic(), 0
-    with subprocess.Popen(words, stdin=subprocess.PIPE, stdout=subprocess.PIPE, stderr=subprocess.PIPE, **how) as process:
-        while True:
-            try:
-                told = process.communicate(given, timeout=1)
-                return subprocess.CompletedProcess(words, process.returncode, *told)
-            except subprocess.TimeoutExpired:
-                given, longest = None, max(longest, starved(process.pid))
-                if time.monotonic() - begun - longest > seconds():
-                    process.kill()
-                    raise
+    """What came of a program that reads this from a file, as subprocess.run tells it. By the clock it may take as long as it likes: the machine may have
+    much else to do. (A pipe would not do: `communicate` gives none of the rest to a program that has not read all at the first look.)"""
+    taken, idle = 0, 0
+    with tempfile.TemporaryFile() as file:
+        file.write(given)
+        file.seek(0)
+        with subprocess.Popen(words, stdin=file, stdout=subprocess.PIPE, stderr=subprocess.PIPE, **how) as process:
+            while True:
+                try:
+                    told = process.communicate(timeout=1)
+                    return subprocess.CompletedProcess(words, process.returncode, *told)
+                except subprocess.TimeoutExpired:
+                    before, (taken, is_ready) = taken, has_run(process.pid)
+                    idle = 0 if is_ready or taken > before + 1 / TICK else idle + 1
+                    if idle == LOOKS or taken > MOST:
+                        process.kill()
+                        raise
 
 
 # Two virtual processors that wait for a page each, and two that wait for the same one.
@@ -135,7 +144,7 @@ def ran(program, words, text):
     try:
         done = ended([program, *words], text.encode())
     except subprocess.TimeoutExpired:
-        return "", f"it does not end within {seconds()} seconds", None
+        return "", "it waits for ever", None
     return done.stdout.decode("latin-1"), done.stderr.decode("latin-1"), done.returncode
 
 
@@ -244,8 +253,9 @@ def fault_of(program, text, words, kinds):
     written, told, status = ran(program, words, text)
     if (status, told) != (0, ""):
         return f"status {status}, {written[:60]!r}, {told[:200]!r}"
-    if ran(program, [], written) != ("yes\n", "", 0):
-        return "the program does not say yes to it"
+    checked = ran(program, [], written)
+    if checked != ("yes\n", "", 0):
+        return f"the program does not say yes to it: {checked}"
     script = Script(text)
     session = written[:written.index("\nend\n") + 5]
     if session.splitlines()[:len(script.opening)] != script.opening:
