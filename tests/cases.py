@@ -1,6 +1,4 @@
 """The cases of the test that runs: how many came out as wanted, which did not, and what was left out."""
-import itertools
-
 import pytest
 
 # So many characters of a value are told, and so many cases of a test that failed.
@@ -27,9 +25,22 @@ def begin():
     running = Cases()
 
 
-def each(items, through=iter):
-    """The items of the test's list, or what comes of them through a function. One that failed is told by its number, by which it can be tried alone."""
-    for running.item, made in enumerate(through(itertools.islice(items, alone, None if alone is None else alone + 1)), alone or 0):
+def each(items, through=iter, name=None):
+    """The items of the test's list, or what comes of them through a function. One that failed is told by its name, by which it can be tried alone: what
+    the function `name` makes of it, or else its number."""
+    names = []
+
+    def wanted():
+        for number, item in enumerate(items):
+            called = str(number if name is None else name(item))
+            if alone in (None, called):
+                names.append(called)
+                yield item
+                if alone is not None:
+                    return
+
+    for at, made in enumerate(through(wanted())):
+        running.item = names[at]
         yield made
     if alone is not None:
         pytest.skip(f"all items but {alone}")

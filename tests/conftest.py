@@ -29,7 +29,7 @@ def pytest_addoption(parser):
     group.addoption("--all", action="store_true", help="also the cases that the gate leaves out, since they take minutes")
     group.addoption("--first", action="store_true", help="end at the first case that fails")
     group.addoption("--up-to", type=int, metavar="N", help="end each test after so many cases")
-    group.addoption("--item", type=int, metavar="N", help="try this item alone of each test's list")
+    group.addoption("--item", metavar="NAME", help="try the item of this name, or number, alone of each test's list")
     group.addoption("--calls", help="the program that the tests of the crates' calls run; one is compiled where none is given")
     group.addoption("--counts", action="store_true", help="tell how many cases each test tried")
     group.addoption("--times", metavar="FILE", help="write how many seconds of processor each test took, the longest first")
@@ -60,6 +60,8 @@ def pytest_runtest_call(item):
         pytest.fail(f"{len(made.failed)} of {made.made()} cases failed", pytrace=False)
     if least and made.made() < least.args[0] and not made.left_out:
         pytest.fail(f"there were {made.made()} cases, and there have to be {least.args[0]}", pytrace=False)
+    if not cases.ends_at_first and (cases.most, cases.alone) == (None, None):
+        MadeOnce(os.environ[MADE_ONCE]).note(f"passed {item.nodeid.partition('@')[0]}")
 
 
 def spent():
@@ -124,10 +126,16 @@ class Told:
         print(f"{self.counts['passed']} passed, {self.counts['failed']} failed{left_out}")
 
 
+def folder_of_this_process(name):
+    """A folder that is gone once this process has ended."""
+    room = tempfile.mkdtemp(prefix=f"postcopy-{name}-")
+    atexit.register(shutil.rmtree, room, ignore_errors=True)
+    return room
+
+
 def have_scripts_run_by_this_interpreter():
     """Puts a `python3` before all others that is this interpreter, and not one that looks for another, as a tool of versions does for tenths of a second."""
-    room = tempfile.mkdtemp(prefix="postcopy-python-")
-    atexit.register(shutil.rmtree, room, ignore_errors=True)
+    room = folder_of_this_process("python")
     with open(f"{room}/python3", "w", encoding="utf-8") as file:
         file.write(f'#!/bin/sh\nexec {shlex.quote(sys.executable)} "$@"\n')
     os.chmod(file.name, 0o755)
@@ -138,6 +146,7 @@ def pytest_configure(config):
     if case_table.LAID_OUT not in os.environ:
         # (the processes of xdist share what this one has made)
         os.environ[case_table.LAID_OUT] = case_table.CASES
+        os.environ.setdefault(MADE_ONCE, folder_of_this_process("made"))
         have_scripts_run_by_this_interpreter()
     cases.ends_at_first, cases.most, cases.alone = config.getoption("--first"), config.getoption("--up-to"), config.getoption("--item")
     if cases.ends_at_first:
@@ -158,11 +167,8 @@ def program(pytestconfig):
 
 
 @pytest.fixture(scope="session")
-def made_once(tmp_path_factory):
+def made_once():
     """What is made once for all processes, those too that run tests for test_planted.py."""
-    if MADE_ONCE not in os.environ:
-        folder = tmp_path_factory.getbasetemp()
-        os.environ[MADE_ONCE] = str(folder.parent if "PYTEST_XDIST_WORKER" in os.environ else folder)
     return MadeOnce(os.environ[MADE_ONCE])
 
 

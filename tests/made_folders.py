@@ -2,6 +2,7 @@
 processes and threads as bindings/c/postcopy_record.c and bindings/python/postcopy/recorder.py leave them. About half of them are damaged, once
 or twice, each time in one of the ways of DAMAGES: as disks, processes that die, programs that record wrongly, and people who copy files do."""
 import os
+import random
 import re
 import shutil
 from dataclasses import dataclass, field, replace
@@ -15,6 +16,9 @@ from postcopy.records import LOST, RECORDS, SMALL, named, read_record
 
 # The longest text of a known session that is taken.
 LONGEST = 9000
+
+# How often a recording is drawn anew at most, to which a damage does nothing.
+MOST_DRAWN = 60
 
 # How a number with a message is told, by the log that has no file: of which records, and in which log.
 RECEIPTS = {"link": (("source", "ask"), ("pager", "got")), "lane": (("pager", "pull"),)}
@@ -137,12 +141,19 @@ def recordable(text):
 
 
 def texts(rng, count):
-    """So many texts: of known sessions, of schedules that were recorded, and of random records."""
-    known, recorded = small_known_texts(), list(recorded_texts(rng, count + 8))
+    """What draws a text: of a known session, of one of so many schedules that were recorded, or of random records. With one known session more it draws
+    another one seldom."""
+    known, recorded = small_known_texts(), list(recorded_texts(rng, count))
     recorded = [text if rng.random() < 0.1 else recordable(text) for _, text in recorded if len(text) <= LONGEST]
-    for number in range(count):
+
+    def drawn(rng):
         kind = rng.choice(("known", "known", "known", "recorded", "recorded", "recorded", "recorded", "random"))
-        yield rng.choice(known) if kind == "known" else recordable(random_text(rng)) if kind == "random" else recorded[number % len(recorded)]
+        if kind == "known":
+            salt = rng.random()
+            return max(known, key=lambda text: random.Random(f"{salt} {text}").random())
+        return recordable(random_text(rng)) if kind == "random" else rng.choice(recorded)
+
+    return drawn
 
 
 # Spreading a session over files.
@@ -1265,21 +1276,25 @@ def folder_by_two_names(made):
     return True
 
 
-def damaged(made, ways, most):
-    """The recording with damages of the first ways that do anything to it, no more than so many; these go to the end of the ways."""
-    for way in list(ways):
-        if made.files and most > 0 and DAMAGES[way](made):
+def damaged(made, ways):
+    """The recording with the damage of the first way that does anything to it."""
+    for way in ways:
+        if made.files and DAMAGES[way](made):
             made.did.append(way)
-            ways.remove(way)
-            ways.append(way)
-            most -= 1
+            break
     return made
 
 
-def made_folders(rng, count):
-    """So many recordings, half of them damaged, and a quarter of these twice. Each way comes in its turn."""
-    ways = sorted(DAMAGES)
-    rng.shuffle(ways)
-    for number, text in enumerate(texts(rng, count)):
-        made = recording_of_text(rng, text)
-        yield damaged(made, ways, 2 if number % 8 == 3 else 1) if number % 2 else made
+def made_folders(seed, count):
+    """So many recordings, half of them damaged, and a quarter of these twice. Each way comes in its turn, to a recording to which it does anything. Nothing
+    of a recording is by what was drawn for another one."""
+    ways, drawn = sorted(DAMAGES), texts(random.Random(seed), count)
+    random.Random(seed).shuffle(ways)
+    for number in range(count):
+        rng, turn = random.Random(f"{seed} {number}"), number // 2 % len(ways)
+        made = recording_of_text(rng, drawn(rng))
+        for _ in range(number % 2 * MOST_DRAWN):
+            if ways[turn] in damaged(made, [ways[turn]]).did:
+                break
+            made = recording_of_text(rng, drawn(rng))
+        yield damaged(made, ways[turn + 1:] + ways[:turn]) if number % 8 == 3 else made

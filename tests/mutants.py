@@ -12,7 +12,7 @@ whole crate. Try all of a crate, here, once its sources, its specifications or a
 NAME.edit at least, which 'rt must-fail' reads as it is.
 
 Those in tests/planted/CRATE.edits no clause refuses, and those in outside.edits are of files in no crate. Each has a line
-'test: TEST', as pytest names a test, and perhaps 'item: N' for the item of that test's list (cases.each): test_planted.py shows that it finds
+'test: TEST', as pytest names a test, and perhaps 'item: NAME' for the item of that test's list (cases.each): test_planted.py shows that it finds
 the body. Here they are looked at by --check alone.
 
 --few takes some of those that 'rt ci' does not try. The commit's hash chooses which, so that over many commits each is
@@ -72,7 +72,7 @@ class Mutant(NamedTuple):
     @property
     def item(self):
         """The item of that test's list that found it last, or None where the test has no list."""
-        found = re.search(r"^item: (\d+)$", self.text, re.M)
+        found = re.search("^item: (.*)$", self.text, re.M)
         return found[1] if found else None
 
 

@@ -8,7 +8,7 @@ import tempfile
 import mutants
 from call_crates import copy_to, join_to
 from compiled import compile_program
-from switched import COMPILER, put_switches
+from switched import put_switches
 
 BODIES = {it.name: it for it in mutants.planted()}
 # The number of each body that stands in the program.
@@ -22,7 +22,7 @@ def program_with_bodies(made_once):
             copy_to(room)
             join_to(room)
             put_switches(room, {number: BODIES[body] for body, number in NUMBERS.items()})
-            program, said = compile_program(room, "postcopy", "-O0", COMPILER)
+            program, said = compile_program(room, "postcopy", "-O0")
             if program:
                 shutil.copy(program, made)
             return None if program else said[-6000:]

@@ -19,6 +19,7 @@ import threading
 import time
 import warnings
 
+from cases import each
 from made_sessions import TOP, numbered, run_script, text_of_file
 from recorded_model import session_of
 
@@ -94,19 +95,9 @@ class Faults:
                 self.tests.same(f"{what}, cut: what is said", f"session: {line}\n" in ran.stderr.replace(folder, "FOLDER"), True)
 
     def run(self):
-        self.of_two_recordings()
-        self.of_whole_ones()
-        self.of_limits()
-        self.of_lost_files()
-        self.of_slips()
-        self.of_words()
-        self.of_machines()
-        self.of_lanes()
-        self.of_children()
-        self.of_closed_files()
-        self.of_python()
-        self.of_dropped()
-        self.of_output()
+        for part in each((self.of_two_recordings, self.of_whole_ones, self.of_limits, self.of_lost_files, self.of_slips, self.of_words, self.of_machines, self.of_lanes,
+                          self.of_children, self.of_closed_files, self.of_python, self.of_dropped, self.of_output), name=lambda it: it.__name__):
+            part()
 
     def of_whole_ones(self):
         folder = self.recording()

@@ -1,31 +1,20 @@
 """The sources with wrong bodies behind numbers, and a program of them that is told which one it has.
 
 Each function that a body changes has all its wrong bodies beside the right one, and asks `crate::is_planted` by their numbers which of
-them runs. What that answers is put in where LLVM's module is compiled: whether the number stands in a word of the program's data.
-That word is 0, so the program is right, and `plant` writes a copy of it that has a number there. So one program, compiled once,
-has as many wrong bodies as there are.
+them runs. That compares with the number of no body, so the program is right, and `plant` writes a copy of its code that compares with another
+number. So one program, compiled once and without optimization, has as many wrong bodies as there are.
 """
 import os
 import re
-import shlex
-import subprocess
-import sys
 
 import mutants
 
-# What stands before the word that has the number, in the program's data.
-MARK = b"The number of the planted body: "
+# The number of no body, which each `is_planted` of the right program compares with: no program has it elsewhere.
+NONE = 0x7E57B0D1
 # A function as 'rt fmt' lays it out, and the message of an error.
 FUNCTION = re.compile(r"( *)(?:(?:pub(?:\([a-z]+\))?|const|final|unsafe) )*fn \w+")
 MESSAGE = re.compile(r'( *#\[error\()(".*")(\)\])')
-ASKED = "\n/// Whether the planted body of this number runs.\npub(crate) fn is_planted(number: u32) -> bool {\n    number == 0\n}\n"
-DEFINED = re.compile(r'^(define .* i1 @"\w+::is_planted"\(i32 [^)]*%(\w+)\).*\n)(?:.*\n)*?\}\n', re.M)
-ANSWERED = """start:
-  %number = load volatile i32, ptr getelementptr inbounds (i8, ptr @planted, i64 {length})
-  %is = icmp eq i32 %number, %{given}
-  ret i1 %is
-}}
-"""
+ASKED = f"\n/// Whether the planted body of this number runs.\npub(crate) fn is_planted(number: u32) -> bool {{\n    number == {NONE}\n}}\n"
 
 
 def function_around(lines, at):
@@ -86,42 +75,12 @@ def put_switches(room, bodies):
             file.write(ASKED)
 
 
-def with_answers(module):
-    """A module of LLVM, in text, in which each `is_planted` answers."""
-    made, count = DEFINED.subn(lambda found: found[1] + ANSWERED.format(length=len(MARK), given=found[2]), module)
-    if count:
-        made += f'@planted = global {{ [{len(MARK)} x i8], i32 }} {{ [{len(MARK)} x i8] c"{MARK.decode("ascii")}", i32 0 }}, align 8\n'
-    return made
-
-
-def compile_module(clang, level, words):
-    """Stands in for the compiler, which 'rt try' calls with these words."""
-    module = next((word for word in words if word.endswith(".bc")), None)
-    if module is None:
-        return subprocess.run([clang, *words]).returncode
-    subprocess.run([clang, "-x", "ir", module, "-S", "-emit-llvm", "-O0", "-w", "-o", f"{module}.read.ll"], check=True)
-    with open(f"{module}.read.ll", encoding="utf-8") as read, open(f"{module}.ll", "w", encoding="utf-8") as written:
-        written.write(with_answers(read.read()))
-    other = {module: f"{module}.ll", "-O0": level, "-Werror": "-w"}
-    return subprocess.run([clang, *(other.get(word, word) for word in words if word != "-fsanitize=address")]).returncode
-
-
-# The script that stands for clang.
-COMPILER = f"#!/bin/sh\nexec {shlex.join([sys.executable, os.path.realpath(__file__), '--compile'])} '{{tool}}' {{level}} \"$@\"\n"
-
-
 def plant(program, number, to):
     """Writes a copy of a program in which the wrong body of this number runs."""
     with open(program, "rb") as file:
-        data = bytearray(file.read())
-    if data.count(MARK) != 1:
+        code = file.read()
+    if NONE.to_bytes(4, "little") not in code:
         raise ValueError(f"{program} has no place for a number")
-    at = data.index(MARK) + len(MARK)
-    data[at : at + 4] = number.to_bytes(4, "little")
     with open(to, "wb") as file:
-        file.write(data)
+        file.write(code.replace(NONE.to_bytes(4, "little"), number.to_bytes(4, "little")))
     os.chmod(to, 0o755)
-
-
-if __name__ == "__main__":
-    sys.exit(compile_module(sys.argv[2], sys.argv[3], sys.argv[4:]))

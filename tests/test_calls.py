@@ -28,10 +28,13 @@ pytestmark = [pytest.mark.toolchain, pytest.mark.slow, pytest.mark.first, pytest
 @pytest.mark.parametrize("module", [pytest.param(it, id=it.replace("::", "-")) for it in MODULES])
 def test_calls(made_once, pytestconfig, module):
     program = pytestconfig.getoption("--calls") or program_with_bodies(made_once)
-    for test in each(MODULES[module]):
-        ran = subprocess.run([program, "calls", test], stdin=subprocess.DEVNULL, stdout=subprocess.PIPE, stderr=subprocess.STDOUT, errors="replace",
-                             timeout=SHORT_LIMIT if cases.ends_at_first else LIMIT)
-        count(ran.returncode == 0, f"{test}: {ran.stdout[-3000:]}")
+    for test in each(MODULES[module], name=str):
+        try:
+            ran = subprocess.run([program, "calls", test], stdin=subprocess.DEVNULL, stdout=subprocess.PIPE, stderr=subprocess.STDOUT, errors="replace",
+                                 timeout=SHORT_LIMIT if cases.ends_at_first else LIMIT)
+            count(ran.returncode == 0, f"{test}: {ran.stdout[-3000:]}")
+        except subprocess.TimeoutExpired:
+            count(False, f"{test}: it does not end")
 
 
 def test_each_is_listed():

@@ -27,7 +27,7 @@ import sys
 import time
 
 import pytest
-from cases import leave_out, same
+from cases import each, leave_out, same
 
 TOP = os.path.realpath(f"{os.path.dirname(os.path.realpath(__file__))}/..")
 # How many writes a session has, and how many runs a merging, and the line of the first of each.
@@ -249,15 +249,16 @@ def read_by_bytes(program, room, library):
     """The same of texts of which each read gives one byte."""
     by_bytes = {**os.environ, "LD_PRELOAD": library, "REFUSING": f"read 1 {1 << 30} short"}
     note = b"session: note: the guest neither reads nor writes a page after a resume, so no use of one was judged\n"
-    for more, wanted in ((0, (b"clean\n", note, 0)), (1, (b"", b"file session\nsession: the text comes in too many pieces\n", 3))):
-        write(room, "session", session_of(MOST_READS - 1 + more))
-        ran = subprocess.run([program, "audit", "--quiet", "session"], cwd=room, env=by_bytes, capture_output=True)
-        yield f"a session that takes {MOST_READS + more} reads", (ran.stdout, ran.stderr, ran.returncode), wanted
-    write(room, "session", NO_RESUME)
-    write(room, "table", b"7\n" * (MOST_READS // 2 + 1))
-    ran = subprocess.run([program, "explain", "--lines", "table", "session"], cwd=room, env=by_bytes, capture_output=True)
-    found = ran.stdout.split(b"\n")[0], ran.stderr, ran.returncode
-    yield f"a table that takes {MOST_READS + 3} reads", found, (b"shape line 7 phases", b"", 1)
+    too_many = b"file session\nsession: the text comes in too many pieces\n"
+    for what, size, table, wanted in each((
+        ("a session that may be read", MOST_READS - 1, None, (b"clean", note, 0)), ("a session that takes too many reads", MOST_READS, None, (b"", too_many, 3)),
+        ("a table", None, b"7\n" * (MOST_READS // 2 + 1), (b"shape line 7 phases", b"", 1)),
+    ), name=lambda it: it[0]):
+        write(room, "session", session_of(size) if size else NO_RESUME)
+        write(room, "table", table or b"")
+        words = ("explain", "--lines", "table") if table else ("audit", "--quiet")
+        ran = subprocess.run([program, *words, "session"], cwd=room, env=by_bytes, capture_output=True)
+        yield what, (ran.stdout.split(b"\n")[0], ran.stderr, ran.returncode), wanted
 
 
 def write_zeros(room, name, front, *sizes):
@@ -274,9 +275,9 @@ def long_lines(program, room, _library):
     """The same of tables of which a line is as long as may be, or longer."""
     write(room, "session", NO_RESUME)
     too_long = b'file table\ntable: longer than the limit for such a text; "postcopy window" takes a recording of any size\n'
-    for sizes, wanted in (((LONGEST_LINE,), (b"lines-text line 1\n", 1)), ((LONGEST_LINE + 1,), (too_long, 3)),
-                          ((200_000_000, 200_000_000), (b"lines-text line 1\n", 1)), ((5, LONGEST_LINE), (b"lines-text line 1\n", 1)),
-                          ((5, LONGEST_LINE + 1), (too_long, 3))):
+    for sizes, wanted in each((((1_000_000,), (b"lines-text line 1\n", 1)), ((LONGEST_LINE,), (b"lines-text line 1\n", 1)), ((LONGEST_LINE + 1,), (too_long, 3)),
+                               ((200_000_000, 200_000_000), (b"lines-text line 1\n", 1)), ((5, LONGEST_LINE), (b"lines-text line 1\n", 1)),
+                               ((5, LONGEST_LINE + 1), (too_long, 3))), name=lambda it: str(it[0])):
         write_zeros(room, "table", b"1", *sizes)
         ran = subprocess.run([program, "explain", "--lines", "table", "session"], cwd=room, capture_output=True)
         yield f"a table with lines of {sizes} bytes", (ran.stdout or ran.stderr, ran.returncode), wanted
@@ -323,7 +324,7 @@ def long_inputs(program, room, _library):
 
 @pytest.mark.parametrize("tries", (
     pytest.param(long_inputs, marks=pytest.mark.cases(len(FRONTS))),
-    pytest.param(read_by_bytes, marks=pytest.mark.cases(3)), pytest.param(long_lines, marks=pytest.mark.cases(5))), ids=lambda it: it.__name__)
+    pytest.param(read_by_bytes, marks=pytest.mark.cases(3)), pytest.param(long_lines, marks=pytest.mark.cases(6))), ids=lambda it: it.__name__)
 def test_limits(program, room, refusing, tries):
     for case in tries(program, room, refusing):
         same(*case)

@@ -388,7 +388,7 @@ def scripts():
 @pytest.mark.cases(1070)
 def test_migrations(program):
     kinds = set()
-    for name, text, words, runs in each(scripts()):
+    for name, text, words, runs in each(scripts(), name=lambda it: it[0]):
         for run in range(runs):
             right(fault_of(program, text, ["migrate", *words], kinds), f"{name}, run {run}")
     assert "pull" in kinds, "no run took a page from a lane"

@@ -14,7 +14,7 @@ import unicodedata
 
 import pytest
 from case_table import case_file
-from cases import leave_out, same
+from cases import each, leave_out, same
 from made_sessions import numbered, text_of_file
 from recorded_faults import MOVED
 
@@ -154,10 +154,12 @@ def escaped(name):
 def test_folders(program, room):
     """The sentences of `session` on folders: characters that are not shown as they are have the escapes of JSON, and no other has."""
     tests = Tests(program, room)
-    for name in names():
-        os.mkdir(f"{room}/{name}")
+    for folder in ("one name", "\x85next"):
+        os.mkdir(f"{room}/{folder}")
+    same("what is told of two", tests.run("session", "one name", "\x85next"), (1, "", f"session: one name, \\u0085next: {NO_RECORDER}\n"))
+    for name in each(names(), name=ascii):
+        os.makedirs(f"{room}/{name}", exist_ok=True)
         same(f"what is told of a folder {shown(name)}", tests.run("session", name), (1, "", f"session: {escaped(name)}: {NO_RECORDER}\n"))
-    same("what is told of two", tests.run("session", "a b", "\x85next"), (1, "", f"session: a b, \\u0085next: {NO_RECORDER}\n"))
 
 
 def recorded(folder):

@@ -339,7 +339,7 @@ def sessions():
 @pytest.mark.cases(1800)
 def test_pictures(program, room):
     kinds, asked = set(), Program(program, room)
-    for number, (name, session) in each(enumerate(sessions())):
+    for number, (name, session) in each(enumerate(sessions()), name=lambda it: it[1][0]):
         found, kind = drawn_wrongly(asked, session)
         kinds.add(kind)
         right(found, name)

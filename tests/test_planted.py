@@ -27,7 +27,7 @@ TOP = os.path.dirname(os.path.dirname(os.path.realpath(__file__)))
 # The modules of tests that are given the program as that of the tests of calls.
 OF_CALLS = ("tests/test_calls.py", "tests/test_refused_calls.py")
 # Of a test that failed, the line that says so, and the one that says with which case, and of which item of its list.
-FAILED, CASE = re.compile("^FAILED .*$", re.M), re.compile(r"^case (\d+)(?: of item (\d+))? failed", re.M)
+FAILED, CASE = re.compile("^FAILED .*$", re.M), re.compile(r"^case (\d+)(?: of item (.*))? failed, and", re.M)
 # What is said where the test as a whole was left out, as where there is no node.
 LEFT_OUT = re.compile(r"^left out: [^ ]+: (.*)\n(?:.*\n)*0 passed, 0 failed, 1 left out", re.M)
 # How long a test may take, in seconds by the clock, and each program that it runs, in seconds of processor: a wrong body may wait for ever, or
@@ -51,6 +51,7 @@ def run_in_fork(words, tree, said, most):
             os.dup2(said.fileno(), number)
             setattr(sys, name, open(number, "w", closefd=False))
         os.environ.pop("PYTEST_XDIST_WORKER", None)
+        os.environ["PYTEST_DISABLE_PLUGIN_AUTOLOAD"] = "yes"
         if tree != TOP:
             os.chdir(tree)
             sys.path[:] = [tree + it.removeprefix(TOP) if it.startswith(TOP) else it for it in sys.path]
@@ -80,9 +81,13 @@ def status_of(child):
     return None
 
 
+def is_of_calls(test):
+    return test.partition("::")[0] in OF_CALLS
+
+
 def run_test(test, tree, program, *part):
     """Runs a test of a tree, or a part of it, to its first case that fails: the status, and what was printed."""
-    words = ["-q", "--first", "-p", "no:cacheprovider", "-p", "no:xdist", f"--{'calls' if test.partition('::')[0] in OF_CALLS else 'program'}={program}", *part]
+    words = ["-q", "--first", "-p", "no:cacheprovider", "-p", "no:xdist", f"--{'calls' if is_of_calls(test) else 'program'}={program}", *part]
     with tempfile.TemporaryFile() as said:
         seconds = MOST_OF_REFUSED if test.startswith("tests/test_refused_calls.py") else MOST
         status = status_of(run_in_fork([*words, f"{tree}/{test}"], tree, said, seconds))
@@ -94,9 +99,11 @@ def part_of(item):
     return [] if item is None else [f"--item={item}"]
 
 
-def require_right(made_once, test, program, found):
+def require_right(made_once, test, program, found, runs_as_it_is):
     """Sees to it that a test passes where no wrong body runs: the item that found one, or up to the case that did, or the next power of two, so that
-    it is run seldom."""
+    it is run seldom. Where the test `runs_as_it_is`, with that program and of this tree, it may have passed already."""
+    if runs_as_it_is and made_once.is_noted(f"passed {test}"):
+        return
     part = [] if not found else part_of(found[2]) if found[2] else [f"--up-to={1 << (int(found[1]) - 1).bit_length()}"]
 
     def make(made):
@@ -138,7 +145,7 @@ def test_program(made_once):
     program_with_bodies(made_once)
 
 
-def found_by(made_once, name, right, tree, program):
+def found_by(made_once, name, right, tree, program, runs_as_it_is):
     """Whether a test has found a wrong body, and does not fail for another reason. Gives what is to be told of it, if anything is."""
     test, item = BODIES[name].test, BODIES[name].item
     status, said = run_test(test, tree, program, *part_of(item))
@@ -152,7 +159,7 @@ def found_by(made_once, name, right, tree, program):
     assert status, f"{test} does not find it"
     assert FAILED.search(said), "the test was not run"
     found = CASE.search(said)
-    require_right(made_once, test, right, found)
+    require_right(made_once, test, right, found, runs_as_it_is)
     now = found[2] if found else None
     return None if now == item else f"{BODIES[name].file}, {name}: found by item {now} and not {item}"
 
@@ -162,11 +169,11 @@ def found_by(made_once, name, right, tree, program):
 def test_planted(made_once, room, record_property, name):
     right, program = program_with_bodies(made_once), f"{room}/program"
     plant(right, NUMBERS[name], program)
-    record_property("told", found_by(made_once, name, right, TOP, program))
+    record_property("told", found_by(made_once, name, right, TOP, program, is_of_calls(BODIES[name].test)))
 
 
 @pytest.mark.last
 @pytest.mark.xdist_group("copy of the tree")
 @pytest.mark.parametrize("name", [it for it in BODIES if it not in NUMBERS])
 def test_outside(made_once, program, planted, record_property, name):
-    record_property("told", found_by(made_once, name, program, planted, program))
+    record_property("told", found_by(made_once, name, program, planted, program, True))

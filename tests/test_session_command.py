@@ -12,7 +12,7 @@ import subprocess
 import tempfile
 
 import pytest
-from cases import count, same
+from cases import count, each, same
 from made_sessions import files_of, known_sessions, numbered, run_script, text_of_file
 from recorded_faults import MOVED, Faults
 from recorded_model import NOTHING, answer_of, model_of, told
@@ -322,7 +322,7 @@ def test_system_errors(program, room):
     folder = beside.recording()
     with open(f"{folder}/guest.1.0", encoding="ascii") as file:
         head = file.readlines()[:3]
-    for number in range(1, 136):
+    for number in each(range(1, 136), name=str):
         with open(f"{folder}/guest.1.0", "w", encoding="ascii") as file:
             file.writelines([*head, f"lost {number}\n"])
         said = beside.by_command(folder).stderr
@@ -400,11 +400,11 @@ def test_refused_calls_of_an_audit(program, room, refusing):
 def test_failed_late(program, room, refusing):
     """What is written of a longer text before a read fails is its beginning, and so where a file is shorter than it was. Nothing is
     written before the last pass."""
-    run, folder = Run(program, room, refusing), Beside(room, program).recording(guest=[*MOVED["guest"], *["r 0 0 0 5"] * 20000])
+    run, folder = Run(program, room, refusing), Beside(room, program).recording(guest=[*MOVED["guest"], *[f"w 63 0 0 {2**64 - 1}"] * 6600])
     plain, (_, reads, *_) = run.counted("-", "session", folder)
     same("a longer recording", (plain[0], len(plain[1]) > 3 * PIECE, plain[2]), (0, True, b""))
     lengths, changed = [], 0
-    for number in range(1, reads + 1):
+    for number in each(range(1, reads + 1), name=str):
         (status, output, errors), _ = run.counted(f"read {number} {number} {errno.EIO}", "session", folder)
         same(f"read {number} fails", (status, plain[1].startswith(output), errors.count(b"\n"), errors.endswith(b": %s\n" % NOT_READ)), (3, True, 2, True))
         lengths.append(len(output))

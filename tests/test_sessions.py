@@ -8,6 +8,7 @@ And files that nobody should have: lines that do not end, files that grow, thous
 With --all there are some thousand recordings more.
 """
 import contextlib
+import itertools
 import os
 import random
 import re
@@ -315,9 +316,8 @@ def tests(program, room, monkeypatch):
 
 @pytest.mark.cases(3 * RECORDINGS)
 def test_sessions(tests, pytestconfig):
-    rng, count = random.Random(34), ALL if pytestconfig.getoption("--all") else RECORDINGS
-    ways = set()
-    for number, made in enumerate(made_folders(rng, count)):
+    count, ways = ALL if pytestconfig.getoption("--all") else RECORDINGS, set()
+    for number, made in enumerate(made_folders(40, count)):
         compared(tests, f"recording {number}, {', '.join(made.did) or 'as it was'}", made.put("."), "out" if number % 3 == 0 else None)
         ways |= {*made.did}
     assert not {*DAMAGES} - ways, "no recording is damaged so"
@@ -468,6 +468,23 @@ def parts(tests):
             left = "" if last is None else "lost 28\n" if last == "lost" else f"{last} {end}\n"
             tests.put(f"{folder}/guest.{process}.0", f"postcopy-records 1\nrecording made\nlog guest {first} 0\n" + "".join(f"{it} {MOVED['guest'][it]}\n" for it in records) + left)
         compared(tests, f"the parts {chosen}", [folder])
+
+
+def twice(tests):
+    """A number that two files of a log have, where one of them may be of a part of its own, and another number may be missing; and a log that a process of
+    the same number goes on with in another folder."""
+    for log, records in MOVED.items():
+        last = len(records) - 1
+        front = "".join(f"{it} {record}\n" for it, record in enumerate(records[:last]))
+        for name, first, missing in itertools.product(("one/{}.1.1", "one/{}.2.0", "two/{}.1.0"), (0, last), (0, 1)):
+            room, name = f"twice-{log}-{first}-{missing}-{name[:3]}-{name[-3:]}", name.format(log)
+            folders = [base(f"{room}/one", **{log: f"{front}{last} {records[last]}\nend {last + 1 + missing}\n".encode()})]
+            tests.put(f"{room}/{name}", f"postcopy-records 1\nrecording made\nlog {log} {first} 0\n{last} {records[last]}\n")
+            compared(tests, f"the last record of the {log} in {name} too", [*folders, *([f"{room}/two"] if name.startswith("two") else [])])
+        folder = base(f"goes-on-{log}/one", **{log: f"{front}next {last}\n".encode()})
+        tests.put(f"goes-on-{log}/two/{log}.1.0", f"postcopy-records 1\nrecording made\nlog {log} {last} 0\n{last} {records[last]}\nend {last + 1}\n")
+        text, said = compared(tests, f"a process that goes on with the log of the {log} in another folder", [folder, f"goes-on-{log}/two"])
+        tests.same(f"the session of a log of the {log} in two folders", (text is None, said), (False, []))
 
 
 def heirs(tests):
@@ -648,7 +665,7 @@ def larger(tests):
     for number in range(12):
         made = recording_of_text(rng, texts[number % 2])
         ways = [rng.choice(sorted(DAMAGES)), "lost_record"] if number % 4 > 1 else []
-        compared(tests, f"a larger recording {number}, {ways}", damaged(made, ways, 1).put("."), "out")
+        compared(tests, f"a larger recording {number}, {ways}", damaged(made, ways).put("."), "out")
 
 
 def large(tests):
@@ -684,7 +701,7 @@ def names(tests):
 
 
 @pytest.mark.parametrize("part", (
-    pytest.param(long_lines, marks=pytest.mark.cases(5)), pytest.param(edges, marks=pytest.mark.cases(200)), pytest.param(great_numbers, marks=pytest.mark.cases(150)), pytest.param(parts, marks=pytest.mark.cases(480)), pytest.param(heirs, marks=pytest.mark.cases(4)), pytest.param(asks, marks=pytest.mark.cases(2)), pytest.param(growing, marks=pytest.mark.cases(1)),
+    pytest.param(long_lines, marks=pytest.mark.cases(5)), pytest.param(edges, marks=pytest.mark.cases(200)), pytest.param(great_numbers, marks=pytest.mark.cases(150)), pytest.param(parts, marks=pytest.mark.cases(480)), pytest.param(twice, marks=pytest.mark.cases(180)), pytest.param(heirs, marks=pytest.mark.cases(4)), pytest.param(asks, marks=pytest.mark.cases(2)), pytest.param(growing, marks=pytest.mark.cases(1)),
     pytest.param(many_files, marks=pytest.mark.cases(8)), pytest.param(unread, marks=pytest.mark.cases(20)), pytest.param(outputs, marks=pytest.mark.cases(20)),
     pytest.param(larger, marks=pytest.mark.cases(50)), pytest.param(large, marks=pytest.mark.cases(1)),
     pytest.param(names, marks=pytest.mark.cases(49))), ids=lambda it: it.__name__)

@@ -85,7 +85,7 @@ def drawn(program, words):
 @pytest.mark.cases(294)
 def test_shapes(program):
     told = set()
-    for path in each(sorted(glob.glob(f"{TOP}/tests/shapes/*"))):
+    for path in each(sorted(glob.glob(f"{TOP}/tests/shapes/*")), name=os.path.basename):
         words, *wanted = read(path).splitlines()
         found, what = drawn(program, words.split(" ")), os.path.basename(path)
         for n, line in enumerate(wanted):
