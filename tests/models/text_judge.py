@@ -1,4 +1,5 @@
 """At which line a text is refused, slowly and plainly: by the tables of docs/FORMATS.md, line by line and word by word."""
+import functools
 import itertools
 import re
 from typing import Callable, NamedTuple
@@ -188,6 +189,7 @@ def events(line):
 TEXTS = {"session": session, "certificate": certificate, "runs": order, "script": script, "events": events}
 
 
+@functools.lru_cache(maxsize=16)
 def refusal_line(kind, text):
     """The line at which a text of this kind is refused, or None."""
     *ended, rest = text.decode("latin-1").split("\n")

@@ -3,10 +3,18 @@ crates/audit_model/specs/Windows.antt, where records name what is not there, or 
 
 It takes recordings that are well formed. Their numbers have no limit here.
 """
+import functools
+
 from session_text import OWN, PAGE, RECEIPTS, SessionText
 
 # The records that are kept whatever they name, beside those of a page of the window.
 ALWAYS = {"guest": {"halt", "resume"}, "source": {"halted", "state", "done", "back"}, "link": set(), "lane": set(), "pager": {"ready", "all"}}
+
+
+@functools.lru_cache(maxsize=4)
+def words_of(text):
+    """The words of each record, by the log."""
+    return {log: [record.split(" ") for record in records] for log, records in SessionText(text).logs.items()}
 
 
 class Recording(SessionText):
@@ -14,8 +22,7 @@ class Recording(SessionText):
 
     def __init__(self, text, first, count):
         super().__init__(text)
-        self.pages = range(first, first + count)
-        self.words = {log: [record.split(" ") for record in records] for log, records in self.logs.items()}
+        self.pages, self.words = range(first, first + count), words_of(text)
         # What is kept of each log. What a log's records are kept by comes before it.
         self.kept = {}
         for log in ("link", "lane", "source", "pager"):
