@@ -143,10 +143,11 @@ def have_scripts_run_by_this_interpreter():
 
 
 def pytest_configure(config):
+    if MADE_ONCE not in os.environ:
+        os.environ[MADE_ONCE] = folder_of_this_process("made")
     if case_table.LAID_OUT not in os.environ:
         # (the processes of xdist share what this one has made)
         os.environ[case_table.LAID_OUT] = case_table.CASES
-        os.environ.setdefault(MADE_ONCE, folder_of_this_process("made"))
         have_scripts_run_by_this_interpreter()
     cases.ends_at_first, cases.most, cases.alone = config.getoption("--first"), config.getoption("--up-to"), config.getoption("--item")
     if cases.ends_at_first:
