@@ -13,7 +13,7 @@ import subprocess
 import tempfile
 
 import pytest
-from cases import same
+from cases import each, same
 
 TOP = os.path.dirname(os.path.dirname(os.path.realpath(__file__)))
 
@@ -61,13 +61,12 @@ def begun(program, counting, words, given, processors):
 def counted(program, counting):
     """No processor is without work, and one of them has the thread that there is. Each judges a range of the pages. In an audit, a
     certify, an explanation and a check, one more judges the shape and the runs or the order, where there are several."""
-    pair = MANY_PAGES + run(program, ("certify", "-"), MANY_PAGES)[1]
-    for processors in range(1, min(4, len(os.sched_getaffinity(0))) + 1):
-        others = processors - 1
-        for words, given, wanted in ((("audit", "-"), MANY_PAGES, others + min(1, others)), (("certify", "-"), MANY_PAGES, others + min(1, others)),
-                                     (("explain", "-"), MANY_PAGES, others + min(1, others)), (("audit", "--all", "-"), MANY_PAGES, others),
-                                     (("check", "-", "-"), pair, others + min(1, others))):
-            yield f"threads begun by {words} on {processors} processors", begun(program, counting, words, given, processors), wanted
+    commands = ("audit", "-"), ("certify", "-"), ("explain", "-"), ("audit", "--all", "-"), ("check", "-", "-")
+    tries = [(words, processors) for processors in range(1, min(4, len(os.sched_getaffinity(0))) + 1) for words in commands]
+    for words, processors in each(tries, name=lambda it: f"{' '.join(it[0])} on {it[1]}"):
+        others, more = processors - 1, run(program, ("certify", "-"), MANY_PAGES)[1] if words[0] == "check" else b""
+        wanted = others if "--all" in words else others + min(1, others)
+        yield f"threads begun by {words} on {processors} processors", begun(program, counting, words, MANY_PAGES + more, processors), wanted
     few = MANY_PAGES.replace(b"65536", b"8")
     yield "threads begun by an audit of few pages", begun(program, counting, ("audit", "-"), few, 4), 0
 
