@@ -590,13 +590,13 @@ def a_long_answer_whose_lines_go_nowhere(run):
 
 def a_long_answer_that_gets_no_name(run):
     """Nothing is left of a long answer where a session of several cannot be read."""
+    reads = b"".join(b"r 0 %d 0 0\n" % page for page in range(6_000))
+    run.put("session", b"postcopy-session 1\npages 6000\ncells 1\ninit 0\nguest 6002\nhalt\nresume 1\n" + reads + b"source 2\nhalted 0\nstate\nlink 1\ndown 1\npager 2\ngot 0\nready\nend\n")
     run.put("new", b"as it was\n")
-    name = f"{'./' * 1_500}session"
-    shutil.copy(f"{TOP}/examples/handover/session", f"{run.room}/session")
-    status, output, errors = run("audit", "-o", "new", *[name] * 350, "not-there")
-    yield "many sessions, and one that is not there", (status, errors, run.has("new")), (3, b"file not-there\nnot-there: no such file or directory\n", b"as it was\n")
+    status, output, errors = run("audit", "--all", "--format", "json", "-o", "new", *["session"] * 5, "not-there")
+    yield "five sessions of many faults, and one that is not there", (status, errors, run.has("new")), (3, b"file not-there\nnot-there: no such file or directory\n", b"as it was\n")
     yield "no other files", sorted(os.listdir(run.room)), ["new", "session"]
-    yield "their list", (len(output) > 1 << 20, output.count(b": clean\n"), output.splitlines()[-1]), (True, 350, b"350 of 351 sessions are clean")
+    yield "their list", (len(output) > 1 << 20, output.count(b'{"file":"session"'), output.count(b'{"page":')), (True, 5, 30_000)
 
 
 def a_long_answer_in_little_memory(run):

@@ -6,7 +6,7 @@ use std::sync::{Mutex, Wait};
 use target_side::TargetBook;
 
 /// How often a gate looks before it gives up.
-const MOST_LOOKS: u32 = 10_000_000;
+const MOST_LOOKS: u32 = 3_000_000;
 
 /// How often a gate looks where it goes on all the same.
 const SOME_LOOKS: u32 = 1_000_000;
