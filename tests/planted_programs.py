@@ -22,7 +22,7 @@ def program_with_bodies(made_once):
             copy_to(room)
             join_to(room)
             put_switches(room, {number: BODIES[body] for body, number in NUMBERS.items()})
-            program, said = compile_program(room, "postcopy", "-O0")
+            program, said = compile_program(room, "postcopy")
             if program:
                 shutil.copy(program, made)
             return None if program else said[-6000:]
