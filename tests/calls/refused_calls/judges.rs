@@ -180,7 +180,8 @@ fn plain_cert(alloc: Global, session: &Session) -> Option<Cert> {
     }
 }
 
-fn wide<R: Threads + Sync>(rt: &R, refuser: Refuser) -> Option<()> {
+/// Makes the calls on the session that threads judge.
+pub fn make_wide<R: Threads + Sync>(rt: &R, refuser: Refuser) -> Option<()> {
     let alloc = refuser.alloc();
     let session = read_session(alloc, WIDE).ok()?;
     let cert = plain_cert(alloc, &session)?;
@@ -200,7 +201,18 @@ fn wide<R: Threads + Sync>(rt: &R, refuser: Refuser) -> Option<()> {
     Some(())
 }
 
-/// Makes the calls.
+/// Makes the calls of a report.
+pub fn make_report<R: Threads + Sync>(
+    rt: &R,
+    refuser: Refuser,
+    examples: &Examples,
+) -> Option<()> {
+    let session = examples.session("early-access/session")?;
+    let told = examples.text("early-access/stdout")?;
+    audited(rt, refuser, &session, told.as_slice())
+}
+
+/// Makes the other calls.
 pub fn make<R: Threads + Sync>(rt: &R, refuser: Refuser, examples: &Examples) -> Option<()> {
     for folder in ["handover", "released-page"] {
         let alloc = refuser.alloc();
@@ -217,9 +229,6 @@ pub fn make<R: Threads + Sync>(rt: &R, refuser: Refuser, examples: &Examples) ->
         });
         refuser.right(name == Some((LogName::Source, 1)));
     }
-    let session = examples.session("early-access/session")?;
-    let told = examples.text("early-access/stdout")?;
-    audited(rt, refuser, &session, told.as_slice())?;
     let runs = examples.text("replayed/runs")?;
     replayed(
         refuser,
@@ -239,6 +248,5 @@ pub fn make<R: Threads + Sync>(rt: &R, refuser: Refuser, examples: &Examples) ->
         &session,
         runs.as_slice(),
         Some((LogName::Guest, 6)),
-    )?;
-    wide(rt, refuser)
+    )
 }

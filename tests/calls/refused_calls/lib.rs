@@ -56,6 +56,21 @@ fn of_judges(rt: HostRuntime) {
 }
 
 #[test]
+fn of_reports(rt: HostRuntime) {
+    let refuser = Refuser::new(rt);
+    tell(
+        refuser,
+        judges::make_report(&rt, refuser, &Examples::new(rt, FOLDER)),
+    );
+}
+
+#[test]
+fn of_wide(rt: HostRuntime) {
+    let refuser = Refuser::new(rt);
+    tell(refuser, judges::make_wide(&rt, refuser));
+}
+
+#[test]
 fn of_books(rt: HostRuntime) {
     let refuser = Refuser::new(rt);
     tell(refuser, books::make(refuser, &Examples::new(rt, FOLDER)));
