@@ -5,6 +5,7 @@ broken at the named record, or at one that comes before it in that order. Of a c
 certificate of the report, and `check` has to say `yes` to it; in its order the session has to be safe. Of each, `replay` and
 `draw` have to answer to the report as it stands what they answer to the text below its first line.
 """
+import functools
 import subprocess
 
 from case_table import case_files, name_of
@@ -24,8 +25,9 @@ class Program:
     def __init__(self, file, folder):
         self.file, self.folder = file, folder
 
+    @functools.lru_cache(maxsize=8)
     def says(self, command, **texts):
-        """What the program writes of these texts, and its status. Options may stand behind the command."""
+        """What the program writes of these texts, and its status. Options may stand behind the command. It is not run again where it was just run so."""
         for name, text in texts.items():
             with open(f"{self.folder}/{name}", "w", encoding="latin-1") as file:
                 file.write(text)
