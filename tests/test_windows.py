@@ -5,7 +5,7 @@ sessions of made_recordings.py, each through several windows; texts with a chang
 their limits; and sessions with many pages, and many records in a log. Where a session has the right shape
 and an order, the window of all its pages has to be judged as it is. Where no record names what is not there,
 bindings/python/postcopy/sessions.py has to cut the same, and so has `window` of a folder with the files that recorders write, and
-recorders/session of these, also where it cuts many windows out of larger ones. A recording of some hundred megabytes, of a machine
+recorders/session of these, also where it cuts many windows out of larger ones. A recording of more than a hundred megabytes, of a machine
 that is larger than any session's, is cut out of its files in memory of a small part of it.
 
 What `explain --lines` says has to be what `explain` says, with each number after the word `line` or `Line` told by the table.
@@ -37,7 +37,7 @@ GONE = ("{0}: note: the file recording-name is gone, which each recorder writes;
         "second lines\n")
 
 # The recording that is larger than the memory that may be used for it: so many bytes of each, about.
-LARGE, LITTLE = 320_000_000, 40_000_000
+LARGE, LITTLE = 160_000_000, 40_000_000
 
 # What is told of a refused recording, and of a line to which only a line feed is lacking.
 REFUSED = re.compile(r"recording:\d+:\d+: (this is |found |the text )[ -~]+\n")

@@ -13,8 +13,9 @@ ALWAYS = {"guest": {"halt", "resume"}, "source": {"halted", "state", "done", "ba
 
 @functools.lru_cache(maxsize=4)
 def words_of(text):
-    """The words of each record, by the log."""
-    return {log: [record.split(" ") for record in records] for log, records in SessionText(text).logs.items()}
+    """The words of each record, by the log. Records that are the same are one object."""
+    words = functools.cache(lambda record: tuple(record.split(" ")))
+    return {log: [*map(words, records)] for log, records in SessionText(text).logs.items()}
 
 
 class Recording(SessionText):
@@ -23,6 +24,7 @@ class Recording(SessionText):
     def __init__(self, text, first, count):
         super().__init__(text)
         self.pages, self.words = range(first, first + count), words_of(text)
+        self.is_seen, self.with_page = functools.cache(self.is_seen), functools.cache(self.with_page)
         # What is kept of each log. What a log's records are kept by comes before it.
         self.kept = {}
         for log in ("link", "lane", "source", "pager"):
@@ -110,11 +112,17 @@ class Recording(SessionText):
         """The number that a record has in the window: how many of those before it are kept."""
         return str(self.before[log][min(number, len(self.before[log]) - 1)])
 
+    def with_page(self, record):
+        """A record of a page, with this numbered anew."""
+        at = PAGE[record[0]]
+        return " ".join([*record[:at], str(int(record[at]) - self.pages.start), *record[at + 1:]])
+
     def anew(self, log, record):
         """A record that is kept, with its page and what it names numbered anew."""
-        kind, words = record[0], list(record)
-        if kind in PAGE:
-            words[PAGE[kind]] = str(int(record[PAGE[kind]]) - self.pages.start)
+        kind = record[0]
+        if kind in PAGE and kind not in OWN:
+            return self.with_page(record)
+        words = self.with_page(record).split(" ") if kind in PAGE else list(record)
         if kind == "see":
             words[1] = self.moved("pager", self.reach(record) - 1)
         elif kind in RECEIPTS:
