@@ -19,12 +19,14 @@ A file that is only there compressed, as PARTY.PROCESS.N.gz, is not read.
 """
 from __future__ import annotations
 
+import functools
 import os
 import re
 import unicodedata
 from typing import Dict, Iterable, Iterator, List, Optional, Tuple
 
-from postcopy.records import LOGS, LOST, MOST_CELLS, RECORDS, read_record
+from postcopy import records
+from postcopy.records import LOGS, LOST, MOST_CELLS, RECORDS
 from postcopy.sessions import Session
 
 # What stands before each line that is told, and the last line where something is missing.
@@ -44,6 +46,9 @@ _MACHINE = re.compile("pages ([1-9][0-9]{0,19}) ([1-9][0-9]{0,2})(?: [01])?|page
 
 # The calls that tell that the lane has a log.
 _LANE_CALL = "postcopy_record_machine_with_lane, or Log.machine_with_lane"
+
+# (many logs have the same record)
+read_record = functools.lru_cache(maxsize=1 << 17)(records.read_record)
 
 
 class Unfit(ValueError):
