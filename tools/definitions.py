@@ -4,6 +4,7 @@ A definition is known by its module and its name. `closure` finds all that some 
 a file stands after those that it rests on: crate by crate, as crates.txt has them. What is of the toolchain's library is left out; types that the code declares are named and not
 followed, since their declarations are code.
 """
+import functools
 import glob
 import os
 import re
@@ -136,14 +137,16 @@ class Definitions:
         self.unknown.add(f"{module}.{name}")
         return None
 
+    @functools.cache
     def cited(self, definition):
         """The definitions and the types of the code that a definition names."""
-        module = self.modules[definition.module]
+        module, cited = self.modules[definition.module], []
         for path in definition.paths():
             found = module.imports.find(path)
             one = self.find(*found) if found else module.definitions.get(path.partition(".")[0]) or module.by_constructor.get(path.partition(".")[0])
             if one and one is not definition:
-                yield one
+                cited.append(one)
+        return cited
 
     def closure(self, roots):
         """All that some definitions rest on, and these."""
