@@ -304,11 +304,12 @@ CELLS = ("pages 2 513", "pages 2 999", "pages 2 1000", "pages 0 513", "pages 0 1
 def test_quotes(program, room):
     """What is quoted of a line that is no record, of a word that is no field, and of a wrong number of cells, beside the model."""
     beside = Beside(room, program, has_script=False)
-    for text in QUOTED:
-        beside.session(beside.recording(guest=text_of_file("guest", [*numbered(["halt"]), text], last="end 2")))
-        beside.session(beside.recording(guest=["halt", f"resume {text}"]))
-    for record in CELLS:
-        beside.session(beside.recording(machine=[record]))
+    for text in each((*QUOTED, *CELLS)):
+        if text in CELLS:
+            beside.session(beside.recording(machine=[text]))
+        else:
+            beside.session(beside.recording(guest=text_of_file("guest", [*numbered(["halt"]), text], last="end 2")))
+            beside.session(beside.recording(guest=["halt", f"resume {text}"]))
 
 
 # How many errors of the system the command has words for. It tells another one by its number.
@@ -475,10 +476,9 @@ NUMBER = ("0", (str(2**32), "-1", ""))
 def test_fields(program, room):
     """Of a record with a wrong field it is told which one it is, and what it may be: each field of each record, beside the model."""
     beside = Beside(room, program, has_script=False)
-    for log, kinds in RECORDS.items():
-        for word, kind in kinds.items():
-            texts = [FIELDS.get(field.name, NUMBER) for field in kind.fields]
-            for place, (_, wrong) in enumerate(texts):
-                for other in (*wrong, "x", "00"):
-                    fields = [other if at == place else right for at, (right, _) in enumerate(texts)]
-                    beside.session(beside.recording(**{log: [*MOVED.get(log, ()), " ".join([word, *fields])]}))
+    for log, word in each([(log, word) for log, kinds in RECORDS.items() for word in kinds], name=" ".join):
+        texts = [FIELDS.get(field.name, NUMBER) for field in RECORDS[log][word].fields]
+        for place, (_, wrong) in enumerate(texts):
+            for other in (*wrong, "x", "00"):
+                fields = [other if at == place else right for at, (right, _) in enumerate(texts)]
+                beside.session(beside.recording(**{log: [*MOVED.get(log, ()), " ".join([word, *fields])]}))
