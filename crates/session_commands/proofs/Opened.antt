@@ -28,12 +28,8 @@ file_at {N} bytes name names ys place n path same lt is named =
     slice_get-map (λ n. bytes (name n)) names place ∙ (ap (option_map (λ n. bytes (name n))) there ∙ ap (λ (p : List ℕ). Some (bytes p)) (sym named))
 
 -- the file at a place has this fault
-pub fault_at : {N : Type 0} (party : Party) (bytes : List ℕ → Option (List ℕ)) (name : N → List ℕ) (names ys : List N) (place : ℕ) (n : N) (path : List ℕ) (read : Option (List ℕ)) (fault : GatherFault) → ys ≡ names → place < length ys → n ≡ get_or ys place n → path ≡ name n → IfSome (bytes path) (λ xs. read ≡ Some xs) → (why : FileFault) × (fault ≡ AtFile place why) × IsFault party read why → IsOpenFault party (map (λ n. bytes (name n)) names) fault
-fault_at party bytes name names ys place n path read fault same lt is named known (why, told, wrong) = subst (IsOpenFault party (map (λ n. bytes (name n)) names)) (sym told) (bytes path, file_at bytes name names ys place n path same lt is named, fault_known party (bytes path) read why known wrong)
-
--- the file at a place was not read
-pub unread_at : {N : Type 0} (party : Party) (bytes : List ℕ → Option (List ℕ)) (name : N → List ℕ) (names ys : List N) (place : ℕ) (n : N) (path : List ℕ) → ys ≡ names → place < length ys → n ≡ get_or ys place n → path ≡ name n → IsOpenFault party (map (λ n. bytes (name n)) names) (AtFile place File)
-unread_at party bytes name names ys place n path same lt is named = (bytes path, file_at bytes name names ys place n path same lt is named, tt)
+pub fault_at : {N : Type 0} (party : Party) (bytes : List ℕ → Option (List ℕ)) (name : N → List ℕ) (names ys : List N) (place : ℕ) (n : N) (path : List ℕ) (fault : GatherFault) → ys ≡ names → place < length ys → n ≡ get_or ys place n → path ≡ name n → (why : FileFault) × (fault ≡ AtFile place why) × IsFault party (bytes path) why → IsOpenFault party (map (λ n. bytes (name n)) names) fault
+fault_at party bytes name names ys place n path fault same lt is named (why, told, wrong) = subst (IsOpenFault party (map (λ n. bytes (name n)) names)) (sym told) (bytes path, file_at bytes name names ys place n path same lt is named, wrong)
 
 -- the files of a log are opened, if all of them are
 pub all_opened : (party : Party) (knowns : List (Option (List ℕ))) (count : ℕ) (files : List Standing) → length knowns ≡ count → AreFirst (λ known s. CameTo party known s []) knowns count files → AreBegun party knowns files

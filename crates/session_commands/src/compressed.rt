@@ -1,19 +1,17 @@
 //! Files of recorders that are there only as somebody has compressed them. None of them is read.
 
-ghost use Rattle.std.specs.Prelude.{◌≡◌, ◌≢◌, ◌↔◌, [], IsTrue, OnOk, map, string_bytes};
+ghost use Rattle.std.specs.Prelude.{◌≡◌, ◌↔◌, IsTrue, OnOk, map, string_bytes};
 ghost use Rattle.std.specs.List.{Contains};
-ghost use Rattle.session_commands.specs.Telling.{SaysUnless};
 ghost use Rattle.session_commands.specs.Found.{IsCompressed};
 ghost use Rattle.session_commands.specs.inner.Compressing.{AddsCompressed};
 
 use crate::found::joined;
 use crate::stops::add;
-use crate::words::{Piece, push_message, sentence};
 use recorder_files::read_compressed_name;
 use std::alloc::{AllocError, Global};
 
 /// Returns whether this is one of the names.
-fn is_among(names: &[String], name: &[u8]) -> bool
+pub(crate) fn is_among(names: &[String], name: &[u8]) -> bool
     ensures { IsTrue result ↔ Contains (map string_bytes names.now) name.now }
 {
     for other in names {
@@ -62,32 +60,6 @@ pub(crate) fn push_compressed(
 {
     for name in names {
         push_one(alloc, paths, folder, names, name.as_str())?;
-    }
-    Ok(())
-}
-
-/// Adds what is said of a file that is compressed.
-fn tell_one(said: &mut Vec<u8>, alloc: Global, path: &str) -> Result<(), AllocError>
-    ensures { OnOk result (said.new.items ≢ []) }
-{
-    let line = sentence(
-        alloc,
-        "{} is compressed, and is not read: unpack it first",
-        &[Piece::Text(path)],
-    )?;
-    push_message(said, line.as_slice())
-}
-
-/// Adds what is said of files that are compressed.
-pub(crate) fn tell_compressed(
-    said: &mut Vec<u8>,
-    alloc: Global,
-    paths: &[String],
-) -> Result<(), AllocError>
-    ensures { OnOk result (SaysUnless said.old.items said.new.items (paths.now ≡ [])) }
-{
-    for place in 0..paths.len() {
-        tell_one(said, alloc, paths[place].as_str())?;
     }
     Ok(())
 }

@@ -6,10 +6,11 @@ ghost use Rattle.recorder_files.specs.Fronts.{cursors_of};
 ghost use Rattle.recorder_files.specs.Named.{IsNaming};
 ghost use Rattle.session_commands.specs.Telling.{SaysUnless};
 
-use crate::facts::{Facts, left_out};
-use crate::places::{FoundRecord, find_record, push_placed};
+use crate::facts::Facts;
+use crate::files::OpenedLogs;
+use crate::places::{FoundRecord, push_place};
 use crate::stops::{Stop, add};
-use crate::words::{Piece, line_on, push, push_message, push_sentence, word_at};
+use crate::words::{Piece, push, push_message, push_sentence, sentence, word_at};
 use migration_types::LogName;
 use recorder_files::{Front, LOST, Party, named_by};
 use recordings::{Visitor, Wide, WideInit, WideMachine};
@@ -45,9 +46,16 @@ impl Ends {
         }
     }
 
-    /// Returns the record in front of which a log is cut.
-    fn end(&self, log: LogName) -> Option<&End> {
-        self.ends.iter().find(|end| end.log == log)
+    /// Keeps a record, whose number this is, if its log is cut in front of it.
+    fn keep(&mut self, number: u64, rec: &Wide) -> Result<(), AllocError> {
+        let log = rec.log();
+        if number != self.front.of(log) {
+            return Ok(());
+        }
+        let mut line = Vec::new(self.alloc);
+        rec.push(&mut line)?;
+        let named = named_by(rec);
+        add(&mut self.ends, End { log, line, named })
     }
 }
 
@@ -69,25 +77,10 @@ impl Visitor for Ends {
     }
 
     fn record(&mut self, number: u64, rec: Wide) -> Result<(), AllocError> {
-        let log = rec.log();
-        if number != self.front.of(log) {
-            return Ok(());
-        }
-        let mut line = Vec::new(self.alloc);
-        rec.push(&mut line)?;
-        let named = named_by(&rec);
-        add(&mut self.ends, End { log, line, named })
+        let kept = self.keep(number, &rec);
+        drop(rec);
+        kept
     }
-}
-
-/// Returns a line without its line feed.
-fn without_end(line: &[u8]) -> &[u8] {
-    line.split_last().map_or(line, |parts| parts.1)
-}
-
-/// Returns whether somebody may write the log of a carrier: the link or the lane.
-fn is_carrier(log: LogName) -> bool {
-    log == LogName::Link || log == LogName::Lane
 }
 
 /// The beginning of a record of the source in a file that has the number of the pager's record, and not that of its delivery.
@@ -142,7 +135,7 @@ fn push_missing(
 ) -> Result<(), AllocError> {
     let form = if number < count {
         ", {}, names record {} of the {}'s log, which is left out too"
-    } else if is_carrier(other) && count == 0 {
+    } else if count == 0 && (other == LogName::Link || other == LogName::Lane) {
         ", {}, names record {} of the {}'s log, which is not there: where nobody writes the {}'s log it is '{}_sent' that \
          takes the sender's number"
     } else {
@@ -171,7 +164,8 @@ fn push_cause(
     found: &Option<FoundRecord>,
     counts: Front,
 ) -> Result<(), AllocError> {
-    let line = without_end(end.line.as_slice());
+    let line = end.line.as_slice();
+    let line = line.strip_suffix(b"\n").unwrap_or(line);
     match end.named {
         Some((other, number)) => {
             if number == LOST {
@@ -188,15 +182,14 @@ fn push_cause(
 fn push_end<S: TextSource>(
     out: &mut Vec<u8>,
     alloc: Global,
-    texts: &S,
-    paths: &[String],
+    files: &OpenedLogs<'_, S>,
     end: &End,
     place: u64,
     counts: Front,
 ) -> Result<(), Stop> {
     let party = Party::Of(end.log);
-    let found = find_record(alloc, texts, party, paths, place)?;
-    push_placed(out, alloc, party, paths, place, &found)?;
+    let paths = files.logs.log(party).paths.as_slice();
+    let found = push_place(out, alloc, files.texts, party, paths, place)?;
     push_cause(out, alloc, end, &found, counts)?;
     Ok(())
 }
@@ -205,8 +198,7 @@ fn push_end<S: TextSource>(
 fn push_why<S: TextSource>(
     out: &mut Vec<u8>,
     alloc: Global,
-    texts: &S,
-    paths: &[String],
+    files: &OpenedLogs<'_, S>,
     facts: &Facts,
     front: Front,
     ends: &Ends,
@@ -216,21 +208,19 @@ fn push_why<S: TextSource>(
         push(out, "a halted that is alone tells nothing")?;
         return Ok(());
     }
-    match ends.end(log) {
-        Some(end) => {
-            let counts = facts.naming.counts();
-            push_end(out, alloc, texts, paths, end, front.of(log), counts)
+    for end in &ends.ends {
+        if end.log == log {
+            return push_end(out, alloc, files, end, front.of(log), facts.naming.counts());
         }
-        None => Ok(()),
     }
+    Ok(())
 }
 
 /// Adds what is said of a log that is cut to a front.
 pub(crate) fn tell_cut<S: TextSource>(
     said: &mut Vec<u8>,
     alloc: Global,
-    texts: &S,
-    paths: &[String],
+    files: &OpenedLogs<'_, S>,
     facts: &Facts,
     front: Front,
     ends: &Ends,
@@ -239,12 +229,12 @@ pub(crate) fn tell_cut<S: TextSource>(
     ensures { OnOk result ((s : Recorded) → IsNaming facts.now.naming s → SaysUnless said.old.items said.new.items (log_length s log ≤ cursors_of front log)) }
 {
     let counts = facts.naming.counts();
-    let count = left_out(counts, front, log);
+    let count = counts.of(log).saturating_sub(front.of(log));
     if count == 0 {
         return Ok(());
     }
-    let mut line = line_on(alloc, Party::Of(log), count)?;
-    push_why(&mut line, alloc, texts, paths, facts, front, ends, log)?;
+    let mut line = sentence(alloc, "{}", &[Piece::On(Party::Of(log), count)])?;
+    push_why(&mut line, alloc, files, facts, front, ends, log)?;
     push_message(said, line.as_slice())?;
     Ok(())
 }

@@ -1,6 +1,6 @@
 //! What is to be known of a recording before its text is written.
 
-ghost use Rattle.std.specs.Prelude.{◌≡◌, ◌<◌, ◌≤◌, ◌-◌, ◌⊎◌, ◌↔◌, ◌==◌, ◌&&◌, ◌||◌, ◌++◌, ℕ, [], ◌∷◌, List, IsTrue, None, OnOk, Some, length};
+ghost use Rattle.std.specs.Prelude.{◌≡◌, ◌<◌, ◌≤◌, ◌⊎◌, ◌↔◌, ◌==◌, ◌&&◌, ◌||◌, ◌++◌, ℕ, [], ◌∷◌, List, IsTrue, None, OnOk, Some, length};
 ghost use Rattle.std.specs.List.{list_any};
 ghost use Rattle.migration_types.specs.declared.records.GuestRec.{GuestRec};
 ghost use Rattle.migration_types.specs.declared.records.PagerRec.{PagerRec};
@@ -12,7 +12,7 @@ ghost use Rattle.recordings.specs.Recordings.{IsMachine};
 ghost use Rattle.recordings.specs.Seen.{nothing_of, with_record, IsNext};
 ghost use Rattle.recordings.specs.Wide.{extent_of, guest_of, pager_of, source_of};
 ghost use Rattle.session_commands.specs.Written.{begins_halted, has_lone_halted, is_back, is_halted, is_pull, IsLateRelease, IsSmall, IsWrittenFront, NeedsLarge};
-ghost use Rattle.audit_model.specs.Shape.{is_release, is_resume, is_halt};
+ghost use Rattle.audit_model.specs.Shape.{is_release, is_resume};
 ghost use Rattle.session_commands.specs.Unresumed.{ends_halted, GoesUnresumed, IsHaltOf};
 ghost use Rattle.session_commands.specs.Facts.{HasNone, IsBefore, IsFacts, IsFirstLate};
 
@@ -44,8 +44,9 @@ pub(crate) struct Facts {
 }
 
 /// Returns whether a record of the guest is a halt.
+#[tactic(auto, using(crate::proofs::Seen::ends_last))]
 fn is_halt(rec: &WideGuest) -> bool
-    ensures test { result ≡ is_halt (guest_of rec.now) }
+    ensures last { (guest : List GuestRec) → result ≡ ends_halted (guest ++ guest_of rec.now ∷ []) }
     ensures halt { IsTrue result ↔ (guest_of rec.now ≡ GuestRec.Halt) }
 {
     matches!(rec, WideGuest::Halt)
@@ -59,14 +60,6 @@ fn with_halt(halt: Option<u64>, number: u64, rec: &WideGuest) -> Option<u64>
         Some(first) => Some(first),
         None => { if is_halt(rec) { Some(number) } else { None } }
     }
-}
-
-/// Returns whether the guest's last record is a halt, given that record.
-#[tactic(auto, using(crate::proofs::Seen::ends_last))]
-fn halts_last(rec: &WideGuest) -> bool
-    ensures { (guest : List GuestRec) → result ≡ ends_halted (guest ++ guest_of rec.now ∷ []) }
-{
-    is_halt(rec)
 }
 
 /// Keeps the record of this number, if it is the first that names a number which no recorder answers.
@@ -298,7 +291,7 @@ impl Facts {
         self.naming.note(rec)?;
         match rec {
             Wide::Guest(rec) => {
-                self.halts_at_last = halts_last(rec);
+                self.halts_at_last = is_halt(rec);
                 self.halt = with_halt(self.halt, number, rec);
                 self.late = with_late(self.late, self.has_resume, number, rec);
                 self.has_resume = with_resume(self.has_resume, rec);
@@ -312,11 +305,4 @@ impl Facts {
         }
         Ok(())
     }
-}
-
-/// Returns how many records of a log come behind a front.
-pub(crate) fn left_out(counts: Front, front: Front, log: LogName) -> u64
-    ensures { result ≡ cursors_of counts log - cursors_of front log }
-{
-    counts.of(log).saturating_sub(front.of(log))
 }

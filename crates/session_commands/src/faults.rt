@@ -3,13 +3,15 @@
 use crate::found::FoundLog;
 use crate::lines::{FIRST_RECORD, line_words};
 use crate::places::{
-    FoundRecord, changed_file, find_in, find_record, find_record_from, line_of, open_file,
-    push_placed,
+    FoundRecord, changed_file, find_in, find_record, line_of, open_file, place_of,
 };
 use crate::stops::Stop;
-use crate::words::{Piece, push_sentence, sentence};
-use recorder_files::{FileFault, Last, Opening, PartFault, Party, Surveyed, read_numbered};
+use crate::words::{Piece, sentence};
+use recorder_files::{
+    FileFault, FileReader, Last, Opening, PartFault, Party, Surveyed, read_numbered,
+};
 use std::alloc::{AllocError, Global};
+use std::io::Read;
 use text_access::TextSource;
 
 /// Why a number is told twice.
@@ -62,6 +64,28 @@ fn order_words(
     }
 }
 
+/// Returns the number of the record at a line of a file.
+fn number_at<S: TextSource>(alloc: Global, texts: &S, path: &str, line: u64) -> Result<u64, Stop> {
+    let found = line_of(alloc, texts, path, line)?;
+    match read_numbered(found.as_slice()) {
+        Some((number, _)) => Ok(number),
+        None => Ok(0),
+    }
+}
+
+/// Returns the line of the record of this number in a file, if it is in front of a line.
+fn line_before<R: Read + Drop>(
+    alloc: Global,
+    file: &mut FileReader<R>,
+    number: u64,
+    line: u64,
+) -> Result<Option<u64>, AllocError> {
+    match find_in(alloc, file, number)? {
+        Some((earlier, _)) if earlier < line => Ok(Some(earlier)),
+        _ => Ok(None),
+    }
+}
+
 /// Returns the words on the record at a line that is out of order.
 fn number_words<S: TextSource>(
     alloc: Global,
@@ -71,36 +95,13 @@ fn number_words<S: TextSource>(
     line: u64,
     surveying: Surveying<'_>,
 ) -> Result<Vec<u8>, Stop> {
-    let found = line_of(alloc, texts, path, line)?;
-    let number = match read_numbered(found.as_slice()) {
-        Some((number, _)) => number,
-        None => 0,
-    };
+    let number = number_at(alloc, texts, path, line)?;
     let mut file = open_file(alloc, texts, party, path)?;
     let opening = file.opening();
-    let earlier = match find_in(alloc, &mut file, number)? {
-        Some((earlier, _)) if earlier < line => Some(earlier),
-        _ => None,
-    };
+    let earlier = line_before(alloc, &mut file, number, line);
+    drop(file);
     let why = why_twice(surveying.before, surveying.process, opening);
-    Ok(order_words(alloc, party, path, line, number, earlier, opening, why)?)
-}
-
-/// Returns the words on a file that is none of a recorder's, or why there are none.
-fn fault_words<S: TextSource>(
-    alloc: Global,
-    texts: &S,
-    party: Party,
-    path: &str,
-    surveying: Surveying<'_>,
-    fault: FileFault,
-) -> Result<Vec<u8>, Stop> {
-    match fault {
-        FileFault::Line(line) => line_words(alloc, texts, party, path, line),
-        FileFault::Order(line) => number_words(alloc, texts, party, path, line, surveying),
-        FileFault::File => Err(changed_file(alloc, path)),
-        FileFault::Memory => Err(Stop::Memory),
-    }
+    Ok(order_words(alloc, party, path, line, number, earlier?, opening, why)?)
 }
 
 /// Returns why a file, which is surveyed, is none of a recorder's.
@@ -112,7 +113,13 @@ pub(crate) fn file_stop<S: TextSource>(
     surveying: Surveying<'_>,
     fault: FileFault,
 ) -> Stop {
-    match fault_words(alloc, texts, party, path, surveying, fault) {
+    let words = match fault {
+        FileFault::Line(line) => line_words(alloc, texts, party, path, line),
+        FileFault::Order(line) => number_words(alloc, texts, party, path, line, surveying),
+        FileFault::File => Err(changed_file(alloc, path)),
+        FileFault::Memory => Err(Stop::Memory),
+    };
+    match words {
         Ok(words) => Stop::Unfit(words),
         Err(stop) => stop,
     }
@@ -147,47 +154,36 @@ fn why_twice_at(log: &FoundLog, file: usize) -> &'static str {
     why_twice(&log.surveyed[..file], surveyed.process, surveyed.opening)
 }
 
-/// Appends the words on two records of one number in the files of a log. The second is in this file, if it was not found.
-fn push_twice(
-    words: &mut Vec<u8>,
+/// Returns the words on two records of one number in the files of a log. The second is in this file, if it was not found.
+fn twice_words<'a>(
     alloc: Global,
     party: Party,
-    log: &FoundLog,
+    log: &'a FoundLog,
     number: u64,
     file: usize,
-    first: &Option<FoundRecord>,
-    second: &Option<FoundRecord>,
-) -> Result<(), AllocError> {
-    let mut at = file;
-    if let Some(second) = second {
-        at = second.file;
-        let place = Piece::At(path_of(log, at), second.line);
-        push_sentence(words, alloc, "{}: ", &[place])?;
-    }
-    let record = Piece::Record(party, number);
-    push_sentence(words, alloc, "a second {}, beside ", &[record])?;
-    push_placed(words, alloc, party, log.paths.as_slice(), number, first)?;
-    push_sentence(words, alloc, ": {}", &[Piece::Text(why_twice_at(log, at))])
-}
-
-/// Returns the words on two files that have a record of this number. The second is this one, or one behind it.
-fn twice_words<S: TextSource>(
-    alloc: Global,
-    texts: &S,
-    party: Party,
-    log: &FoundLog,
-    number: u64,
-    file: usize,
-) -> Result<Vec<u8>, Stop> {
+    first: &'a Option<FoundRecord>,
+    second: &'a Option<FoundRecord>,
+) -> Result<Vec<u8>, AllocError> {
     let paths = log.paths.as_slice();
-    let first = find_record(alloc, texts, party, paths, number)?;
-    let second = find_record_from(alloc, texts, party, paths, number, file)?;
-    let mut words = Vec::new(alloc);
-    push_twice(&mut words, alloc, party, log, number, file, &first, &second)?;
-    Ok(words)
+    let at = match second {
+        Some(second) => second.file,
+        None => file,
+    };
+    let record = Piece::Record(party, number);
+    sentence(
+        alloc,
+        "{}a second {}, beside {}{}: {}",
+        &[
+            place_of(paths, second),
+            record,
+            place_of(paths, first),
+            record,
+            Piece::Text(why_twice_at(log, at)),
+        ],
+    )
 }
 
-/// Returns why two files have a record of this number.
+/// Returns why two files have a record of this number. The second is this one, or one behind it.
 pub(crate) fn twice_stop<S: TextSource>(
     alloc: Global,
     texts: &S,
@@ -195,10 +191,13 @@ pub(crate) fn twice_stop<S: TextSource>(
     log: &FoundLog,
     number: u64,
     file: usize,
-) -> Stop {
-    match twice_words(alloc, texts, party, log, number, file) {
-        Ok(words) => Stop::Unfit(words),
-        Err(stop) => stop,
+) -> Result<Stop, Stop> {
+    let paths = log.paths.as_slice();
+    let first = find_record(alloc, texts, party, paths, number, 0)?;
+    let second = find_record(alloc, texts, party, paths, number, file)?;
+    match twice_words(alloc, party, log, number, file, &first, &second) {
+        Ok(words) => Ok(Stop::Unfit(words)),
+        Err(_) => Err(Stop::Memory),
     }
 }
 

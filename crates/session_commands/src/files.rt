@@ -8,7 +8,6 @@ use crate::found::FoundLogs;
 use migration_types::LogName;
 use recorder_files::{FileFault, FileReader, GatherFault, Party};
 use std::alloc::Global;
-use std::io::Read;
 use text_access::TextSource;
 use walked_sessions::LogFiles;
 
@@ -19,16 +18,21 @@ pub(crate) struct OpenedLogs<'a, S> {
     pub(crate) logs: &'a FoundLogs,
 }
 
-/// Returns a file of a log, whose place among them this is, once its head was read.
-fn begun<R: Read + Drop>(
+/// Opens a file of a log, whose place among them this is, and reads its head.
+#[tactic(auto, using(crate::proofs::OpenedFile::came_known))]
+fn begun<S: TextSource>(
     alloc: Global,
+    texts: &S,
     party: Party,
-    text: R,
+    path: &str,
     place: usize,
-) -> Result<FileReader<R>, GatherFault>
-    ensures opened { IfOk result (λ file. CameTo party (R.remaining text) file []) }
-    ensures refused { IfErr result (λ fault. (why : Why) × (fault ≡ GatherFault.File place why) × IsFault party (R.remaining text) why) }
+) -> Result<FileReader<S::Text>, GatherFault>
+    ensures opened { IfOk result (λ file. CameTo party (S.bytes_of texts.now path.now) file []) }
+    ensures refused { IfErr result (λ fault. (why : Why) × (fault ≡ GatherFault.File place why) × IsFault party (S.bytes_of texts.now path.now) why) }
 {
+    let Ok(text) = texts.text(path) else {
+        return Err(GatherFault::File(place, FileFault::File));
+    };
     match FileReader::open(alloc, party, text) {
         Ok(Some(file)) => Ok(file),
         Ok(None) => Err(GatherFault::File(place, FileFault::File)),
@@ -47,10 +51,8 @@ impl<S: TextSource> LogFiles for OpenedLogs<'_, S> {
         let mut files = Vec::new(alloc);
         let paths = self.logs.log(Party::Of(log)).paths.as_slice();
         for place in 0..paths.len() {
-            let Ok(text) = self.texts.text(paths[place].as_str()) else {
-                return Err(GatherFault::File(place, FileFault::File));
-            };
-            let file = begun(alloc, Party::Of(log), text, place)?;
+            let path = paths[place].as_str();
+            let file = begun(alloc, self.texts, Party::Of(log), path, place)?;
             match files.push(file) {
                 Ok(()) => {}
                 Err(_) => return Err(GatherFault::Memory),

@@ -5,6 +5,7 @@ ghost use Rattle.command_words.specs.declared.requests.Lacking.TheVariants.{Refu
 ghost use Rattle.session_commands.specs.Texts.{IsSessionText};
 ghost use Rattle.text_access.specs.Written.{Gains};
 
+use crate::found::joined;
 use crate::gathering::gather_session;
 use crate::gone::tell_name_gone;
 use crate::performing::perform_session;
@@ -35,17 +36,27 @@ pub struct WithFolders<D, W> {
     pub errors: W,
 }
 
-// Returns the name of the session's text in a folder that has one, and no file of a recorder, as far as it can be known.
-fn session_in<D: TextSource>(disk: &D, alloc: Global, folder: &str) -> io::Result<Option<String>> {
-    for name in &disk.names(alloc, folder)? {
+// Returns whether one of these is the name of a recorder's file.
+fn has_file(names: &[String]) -> bool {
+    for name in names {
         if read_file_name(name.as_bytes()).is_some() {
-            return Ok(None);
+            return true;
         }
     }
-    let end = if folder.ends_with('/') { "" } else { "/" };
-    let name = format!(in alloc; "{folder}{end}session")?;
-    let _text = disk.text(name.as_str())?;
-    Ok(Some(name))
+    false
+}
+
+// Returns the name of the session's text in a folder that has one, and no file of a recorder, as far as it can be known.
+fn session_in<D: TextSource>(disk: &D, alloc: Global, folder: &str) -> io::Result<Option<String>> {
+    let names = disk.names(alloc, folder)?;
+    if has_file(names.as_slice()) {
+        return Ok(None);
+    }
+    let name = joined(alloc, folder, "session")?;
+    match disk.text(name.as_str()) {
+        Ok(_) => Ok(Some(name)),
+        Err(error) => Err(error),
+    }
 }
 
 // Writes a text, and a name as shown. Returns whether all of it was written.

@@ -258,23 +258,23 @@ fn push_files<S: TextSource>(
     Ok(())
 }
 
-/// Returns whether a folder is one of those before it.
-fn is_named_twice<S: TextSource>(texts: &S, folders: &[&str], place: usize) -> bool {
+/// Checks that a folder is none of those before it.
+fn check_once<S: TextSource>(
+    alloc: Global,
+    texts: &S,
+    folders: &[&str],
+    place: usize,
+) -> Result<(), Stop> {
     for before in 0..folders.len() {
         if before < place
             && place < folders.len()
             && texts.is_one(folders[place], folders[before])
         {
-            return true;
+            let folder = Piece::Text(folders[place]);
+            return Err(Stop::Unfit(sentence(alloc, "{} is named twice", &[folder])?));
         }
     }
-    false
-}
-
-/// Returns the words on a folder that is named twice.
-fn twice(alloc: Global, folder: &str) -> Result<Stop, AllocError> {
-    let words = sentence(alloc, "{} is named twice", &[Piece::Text(folder)])?;
-    Ok(Stop::Unfit(words))
+    Ok(())
 }
 
 /// Appends a name of a list, with a comma in front of it unless it is the first.
@@ -314,10 +314,8 @@ pub(crate) fn find_files<S: TextSource>(
     let mut files = Vec::new(alloc);
     let mut compressed = Vec::new(alloc);
     for place in 0..folders.len() {
+        check_once(alloc, texts, folders, place)?;
         let folder = folders[place];
-        if is_named_twice(texts, folders, place) {
-            return Err(twice(alloc, folder)?);
-        }
         push_files(alloc, texts, &mut files, &mut compressed, folder, place)?;
     }
     Ok(FoundFiles { files, compressed })

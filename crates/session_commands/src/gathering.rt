@@ -13,7 +13,7 @@ ghost use Rattle.session_commands.specs.inner.Seen.{IsKnownAndMet};
 
 use crate::finder::FactFinder;
 use crate::found::{FoundFiles, FoundLogs, find_files};
-use crate::making::{Known, counts_of, know, refuse};
+use crate::making::{Known, counts_of, know, say_lacking};
 use crate::performing::{leave_out, tell_stop};
 use crate::stops::Stop;
 use crate::surveys::find_logs;
@@ -48,11 +48,13 @@ impl From<AllocError> for Unmade {
 }
 
 /// Returns the session of a recording that is known and was met, and lacks nothing, if it is within the limits of a session.
-fn session_of(held: HeldRecording, known: Known) -> Result<Option<Session>, AllocError>
-    requires met { HasMet held }
+fn session_of(finder: FactFinder<HeldRecording>, known: Known) -> Result<Option<Session>, Unmade>
+    requires met { HasMet finder.other }
     requires whole { known.said.items ≡ [] }
-    ensures { (files : List ℕ → Option (List ℕ)) (logs : Found) → IsKnownAndMet (IsHeld held) files logs known → IfOk result (λ found. IfSome found (HasText (IsTextOf files logs Refused))) }
+    ensures { (files : List ℕ → Option (List ℕ)) (logs : Found) → IsKnownAndMet (IsHeld finder.other) files logs known → IfOk result (λ found. IfSome found (HasText (IsTextOf files logs Refused))) }
 {
+    let FactFinder { facts, other } = finder;
+    drop(facts);
     let Known {
         machine,
         init,
@@ -60,13 +62,30 @@ fn session_of(held: HeldRecording, known: Known) -> Result<Option<Session>, Allo
         ..
     } = known;
     drop(messages);
-    match held.into_session(machine.version, machine.size, init)? {
+    match other.into_session(machine.version, machine.size, init)? {
         Some(session) => {
             session.keeps_limits();
             Ok(Some(session))
         }
         None => Ok(None),
     }
+}
+
+/// Returns the session of a recording that is known and was met, if it is within the limits of a session. Says what is lacking.
+fn whole_session<E: Write>(
+    finder: FactFinder<HeldRecording>,
+    known: Known,
+    errors: &mut E,
+) -> Result<Option<Session>, Unmade>
+    requires { HasMet finder.other }
+    ensures { (files : List ℕ → Option (List ℕ)) (logs : Found) → IsKnownAndMet (IsHeld finder.other) files logs known → IfOk result (λ found. IfSome found (HasText (IsTextOf files logs Refused))) }
+{
+    if !say_lacking(known.said.as_slice(), Lacking::Refused, errors) {
+        drop(known);
+        drop(finder);
+        return Err(Unmade::Said);
+    }
+    session_of(finder, known)
 }
 
 /// Returns the session of the files of logs, given the senders that their records name. Says what is lacking.
@@ -80,16 +99,23 @@ fn gather_files<S: TextSource, E: Write>(
     ensures { IfOk result (λ found. IfSome found (HasText (IsTextOf (S.bytes_of texts.now) logs.now Refused))) }
 {
     let expected = expected_of(logs, &senders)?;
-    let held = HeldRecording::new(alloc, room_for(expected));
+    // The pages come last, and take memory that is free then.
+    let room = Room {
+        guest: expected.guest,
+        source: expected.source,
+        link: expected.link,
+        lane: expected.lane,
+        pager: expected.pager,
+    };
+    let held = HeldRecording::new(alloc, room);
     let mut finder = FactFinder::new(alloc, held, expected);
-    let known = know(&mut finder, alloc, texts, logs, Some(senders))?;
-    if !known.said.is_empty() {
-        refuse(known.said, errors)?;
-        return Err(Unmade::Said);
+    match know(&mut finder, alloc, texts, logs, Some(senders)) {
+        Ok(known) => whole_session(finder, known, errors),
+        Err(stop) => {
+            drop(finder);
+            Err(Unmade::Stopped(stop))
+        }
     }
-    let FactFinder { facts, other } = finder;
-    drop(facts);
-    Ok(session_of(other, known)?)
 }
 
 /// Returns how many records of each log there are, as the files of logs were surveyed.
@@ -102,26 +128,9 @@ fn expected_of(logs: &FoundLogs, senders: &Senders) -> Result<Front, AllocError>
     })
 }
 
-/// Returns room for this many records. The pages come last, and take memory that is free then.
-fn room_for(expected: Front) -> Room {
-    Room {
-        guest: expected.guest,
-        source: expected.source,
-        link: expected.link,
-        lane: expected.lane,
-        pager: expected.pager,
-    }
-}
-
-/// The largest block that the C library lets decide which blocks it keeps when they are given back.
+/// The largest block that the C library lets decide which blocks it keeps when they are given back: those that are no larger than
+/// the largest that was given back so far. Memory of larger ones goes to the system, which clears each page anew.
 const LARGEST_KEPT: usize = 33_488_896;
-
-/// Has the C library keep the memory of large blocks that are given back, so that later ones take it. It keeps blocks that are no
-/// larger than the largest that was given back so far; memory of larger ones goes to the system, which clears each page anew.
-fn keep_memory(alloc: Global) {
-    let block: Result<Vec<u8>, AllocError> = Vec::with_capacity(alloc, LARGEST_KEPT);
-    drop(block);
-}
 
 /// Returns the session of the files that were found in folders. Says what is lacking.
 fn gather<S: TextSource, E: Write>(
@@ -141,7 +150,9 @@ fn gather<S: TextSource, E: Write>(
     }
     let mut senders = Senders::new(alloc);
     let logs = find_logs(alloc, texts, folders, found, &mut senders)?;
-    gather_files(alloc, texts, &logs, senders, errors)
+    let session = gather_files(alloc, texts, &logs, senders, errors);
+    drop(logs);
+    session
 }
 
 /// Says why there is no session, unless it was said, and returns the error of that.
@@ -174,14 +185,18 @@ pub fn gather_session<S: TextSource, E: Write>(
 ) -> io::Result<Option<Session>>
     ensures { IfOk result (λ found. IfSome found (HasText (IsSessionText (S.names_in texts.now) (S.bytes_of texts.now) (folder.now ∷ []) Refused))) }
 {
-    keep_memory(alloc);
+    // From here on the C library keeps the memory of large blocks, so that later ones take it.
+    let block: Result<Vec<u8>, AllocError> = Vec::with_capacity(alloc, LARGEST_KEPT);
+    drop(block);
     let folders = [folder];
     let found = match find_files(alloc, texts, &folders) {
         Ok(found) => found,
         Err(Stop::Memory) => return Err(io::Error::from(ErrorKind::OutOfMemory)),
         Err(_) => return Ok(None),
     };
-    match gather(alloc, texts, &folders, &found, errors) {
+    let gathered = gather(alloc, texts, &folders, &found, errors);
+    drop(found);
+    match gathered {
         Ok(session) => Ok(session),
         Err(why) => Err(say(alloc, why, errors)),
     }

@@ -2,6 +2,7 @@
 
 ghost use Rattle.text_access.specs.Written.{Gains};
 
+use crate::compressed::is_among;
 use command_texts::write_line_on;
 use recorder_files::NAME_FILE;
 use std::alloc::{AllocError, Global};
@@ -26,7 +27,7 @@ pub(crate) fn tell_name_gone<D: TextSource, E: Write>(
 {
     match disk.names(alloc, folder) {
         Ok(names) => {
-            if !names.iter().any(|name| name.as_str() == NAME_FILE) {
+            if !is_among(names.as_slice(), NAME_FILE.as_bytes()) {
                 write_line_on(errors, folder, GONE);
             }
             Ok(())

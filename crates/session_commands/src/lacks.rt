@@ -10,14 +10,16 @@ use crate::faults::{GONE_ON, last_place, part_stop, path_of, twice_stop};
 use crate::found::FoundLog;
 use crate::places::{changed_file, open_file, unread_file};
 use crate::stops::{Stop, add};
-use crate::system_errors::push_system_error;
-use crate::words::{Piece, line_on, push, push_message, push_sentence, sentence};
+use crate::words::{Piece, tell_each, tell_sentence};
 use recorder_files::{
     FileReader, LogLack, LogPart, Party, Turn, count_records, find_lacks, find_parts, next_turn,
 };
 use std::alloc::{AllocError, Global};
 use std::io::Read;
 use text_access::TextSource;
+
+/// What is said of a file that ends within its head, behind the party of its log.
+const ENDS_EARLY: &str = "{}: {} ends in its head: its process died as it began the file";
 
 /// What is said behind the pages that are missing in the machine's log.
 const TAKEN_FOR_ZEROS: &str = ": pages whose contents are not told are taken for zeros";
@@ -27,88 +29,6 @@ const TAKEN_FOR_ZEROS: &str = ": pages whose contents are not told are taken for
 pub(crate) struct Hole {
     pub first: u64,
     pub behind: Option<u64>,
-}
-
-/// Returns the words on a record that was not written.
-fn lost_words(
-    alloc: Global,
-    party: Party,
-    log: &FoundLog,
-    file: usize,
-    errno: u32,
-) -> Result<Vec<u8>, AllocError> {
-    let mut line = sentence(
-        alloc,
-        "{}: {}: a record was not written: ",
-        &[Piece::Party(party), last_place(log, file)],
-    )?;
-    push_system_error(&mut line, errno)?;
-    Ok(line)
-}
-
-/// Returns the words on what is lacking of a log.
-fn lack_words(
-    alloc: Global,
-    party: Party,
-    log: &FoundLog,
-    lack: LogLack,
-) -> Result<Vec<u8>, AllocError> {
-    match lack {
-        LogLack::Begin { file, first, front } => sentence(
-            alloc,
-            "{}: {} begins with record {}, where the log has {} in front of it: {}",
-            &[
-                Piece::Party(party),
-                Piece::Text(path_of(log, file)),
-                Piece::Count(u64::from(first)),
-                Piece::Count(front),
-                Piece::Text(GONE_ON),
-            ],
-        ),
-        LogLack::End { file } => sentence(
-            alloc,
-            "{}: {} has no end: its process died, or did not close the log (postcopy_log_close, or Log.close)",
-            &[Piece::Party(party), Piece::Text(path_of(log, file))],
-        ),
-        LogLack::Record { file, errno } => lost_words(alloc, party, log, file, errno),
-        LogLack::Heir { file, count } => sentence(
-            alloc,
-            "{}: {}: handed over with {} records, and there is no file of who went on",
-            &[
-                Piece::Party(party),
-                last_place(log, file),
-                Piece::Count(u64::from(count)),
-            ],
-        ),
-    }
-}
-
-/// Adds what is said of a file that ends within its head.
-fn tell_file(said: &mut Vec<u8>, alloc: Global, party: Party, path: &str) -> Result<(), AllocError>
-    ensures { OnOk result (said.new.items ≢ []) }
-{
-    let line = sentence(
-        alloc,
-        "{}: {} ends in its head: its process died as it began the file",
-        &[Piece::Party(party), Piece::Text(path)],
-    )?;
-    push_message(said, line.as_slice())
-}
-
-/// Adds what is said of the files that end within their head.
-fn tell_headless(
-    said: &mut Vec<u8>,
-    alloc: Global,
-    party: Party,
-    log: &FoundLog,
-) -> Result<(), AllocError>
-    ensures { OnOk result (SaysUnless said.old.items said.new.items (log.now.headless.items ≡ [])) }
-{
-    let paths = log.headless.as_slice();
-    for place in 0..paths.len() {
-        tell_file(said, alloc, party, paths[place].as_str())?;
-    }
-    Ok(())
 }
 
 /// Returns the parts of a log.
@@ -138,8 +58,39 @@ fn tell_lack(
 ) -> Result<(), AllocError>
     ensures { OnOk result (said.new.items ≢ []) }
 {
-    let line = lack_words(alloc, party, log, lack)?;
-    push_message(said, line.as_slice())
+    let on = Piece::On(party, 0);
+    match lack {
+        LogLack::Begin { file, first, front } => tell_sentence(
+            said,
+            alloc,
+            "{}{} begins with record {}, where the log has {} in front of it: {}",
+            &[
+                on,
+                Piece::Text(path_of(log, file)),
+                Piece::Count(u64::from(first)),
+                Piece::Count(front),
+                Piece::Text(GONE_ON),
+            ],
+        ),
+        LogLack::End { file } => tell_sentence(
+            said,
+            alloc,
+            "{}{} has no end: its process died, or did not close the log (postcopy_log_close, or Log.close)",
+            &[on, Piece::Text(path_of(log, file))],
+        ),
+        LogLack::Record { file, errno } => tell_sentence(
+            said,
+            alloc,
+            "{}{}: a record was not written: {}",
+            &[on, last_place(log, file), Piece::Error(errno)],
+        ),
+        LogLack::Heir { file, count } => tell_sentence(
+            said,
+            alloc,
+            "{}{}: handed over with {} records, and there is no file of who went on",
+            &[on, last_place(log, file), Piece::Count(u64::from(count))],
+        ),
+    }
 }
 
 /// Adds what the parts of a log lack.
@@ -169,39 +120,16 @@ pub(crate) fn tell_lacks(
 ) -> Result<u64, Stop>
     ensures { IfOk result (λ count. SaysUnless said.old.items said.new.items (LacksNothing log.now count)) }
 {
-    tell_headless(said, alloc, party, log)?;
+    tell_each(
+        said,
+        alloc,
+        ENDS_EARLY,
+        Piece::Party(party),
+        log.headless.as_slice(),
+    )?;
     let parts = parts_of(alloc, party, log)?;
     tell_parts(said, alloc, party, log, parts.as_slice())?;
     Ok(count_records(parts.as_slice()))
-}
-
-/// Returns which records are missing in a log that has so many by its parts.
-fn missing_line(
-    alloc: Global,
-    party: Party,
-    log: &FoundLog,
-    count: u64,
-    hole: Hole,
-) -> Result<Vec<u8>, AllocError> {
-    let end = match hole.behind {
-        Some(behind) => behind,
-        None => count,
-    };
-    let (left_out, rest) = match party {
-        Party::Machine => (0, TAKEN_FOR_ZEROS),
-        Party::Of(_) => (log.records()?.saturating_sub(hole.first), ""),
-    };
-    let mut line = line_on(alloc, party, left_out)?;
-    let first = Piece::Count(hole.first);
-    let last = end.saturating_sub(1);
-    if last <= hole.first {
-        push_sentence(&mut line, alloc, "record {} is missing", &[first])?;
-    } else {
-        let pieces = [first, Piece::Count(last)];
-        push_sentence(&mut line, alloc, "records {} to {} are missing", &pieces)?;
-    }
-    push(&mut line, rest)?;
-    Ok(line)
 }
 
 /// Adds what is said of the records that are missing in a log: it does not have as many as by its parts. If none is missing any
@@ -219,8 +147,28 @@ pub(crate) fn tell_missing(
     if hole.first >= count {
         return Err(unread_file(alloc, log.paths.as_slice(), 0));
     }
-    let line = missing_line(alloc, party, log, count, hole)?;
-    push_message(said, line.as_slice())?;
+    let end = match hole.behind {
+        Some(behind) => behind,
+        None => count,
+    };
+    let (left_out, rest) = match party {
+        Party::Machine => (0, TAKEN_FOR_ZEROS),
+        Party::Of(_) => (log.records()?.saturating_sub(hole.first), ""),
+    };
+    let on = Piece::On(party, left_out);
+    let first = Piece::Count(hole.first);
+    let last = end.saturating_sub(1);
+    if last <= hole.first {
+        tell_sentence(
+            said,
+            alloc,
+            "{}record {} is missing{}",
+            &[on, first, Piece::Text(rest)],
+        )?;
+        return Ok(());
+    }
+    let pieces = [on, first, Piece::Count(last), Piece::Text(rest)];
+    tell_sentence(said, alloc, "{}records {} to {} are missing{}", &pieces)?;
     Ok(())
 }
 
@@ -238,20 +186,29 @@ fn open_scan<S: TextSource>(
     party: Party,
     log: &FoundLog,
 ) -> Result<Scan<S::Text>, Stop> {
-    let mut files = Vec::new(alloc);
-    let mut heads = Vec::new(alloc);
+    let mut scan = Scan {
+        files: Vec::new(alloc),
+        heads: Vec::new(alloc),
+    };
     for path in log.paths.iter() {
-        let mut file = open_file(alloc, texts, party, path.as_str())?;
-        match file.next() {
-            Ok(head) => add(&mut heads, head)?,
-            Err(_) => return Err(changed_file(alloc, path.as_str())),
-        }
-        add(&mut files, file)?;
+        let file = open_file(alloc, texts, party, path.as_str())?;
+        scan.push(alloc, path.as_str(), file)?;
     }
-    Ok(Scan { files, heads })
+    Ok(scan)
 }
 
 impl<R: Read + Drop> Scan<R> {
+    /// Adds a file under a name, and reads it on to its first record.
+    fn push(&mut self, alloc: Global, path: &str, file: FileReader<R>) -> Result<(), Stop> {
+        let mut file = file;
+        let Ok(head) = file.next() else {
+            return Err(changed_file(alloc, path));
+        };
+        add(&mut self.heads, head)?;
+        add(&mut self.files, file)?;
+        Ok(())
+    }
+
     /// Reads a file on to its next record. Returns whether it was read.
     fn read_on(&mut self, file: usize) -> bool {
         if file >= self.files.len() || file >= self.heads.len() {
@@ -267,16 +224,18 @@ impl<R: Read + Drop> Scan<R> {
     }
 }
 
-/// Returns the first number that no record of a log has, and the least one above it. Reads on to the end of each file, so
-/// that it is known that no two records have one number.
-pub(crate) fn find_hole<S: TextSource>(
+/// Returns the first number that no record of a log has, and the least one above it, given its opened files.
+fn hole_among<S: TextSource>(
     alloc: Global,
     texts: &S,
     party: Party,
     log: &FoundLog,
+    scan: &mut Scan<S::Text>,
 ) -> Result<Hole, Stop> {
-    let mut scan = open_scan(alloc, texts, party, log)?;
-    let mut hole: Option<Hole> = None;
+    let mut hole = Hole {
+        first: 0,
+        behind: None,
+    };
     let mut wanted: u64 = 0;
     for _ in 0..u64::MAX {
         match next_turn(scan.heads.as_slice(), wanted) {
@@ -287,22 +246,34 @@ pub(crate) fn find_hole<S: TextSource>(
                 wanted = wanted.saturating_add(1);
             }
             Turn::Twice(_, file) => {
-                return Err(twice_stop(alloc, texts, party, log, wanted, file));
+                return Err(twice_stop(alloc, texts, party, log, wanted, file)?);
             }
             Turn::Missing(least) => {
-                if hole.is_none() {
-                    hole = Some(Hole {
+                if hole.behind.is_none() {
+                    hole = Hole {
                         first: wanted,
                         behind: Some(least),
-                    });
+                    };
                 }
                 wanted = least;
             }
             Turn::End => break,
         }
     }
-    Ok(hole.unwrap_or(Hole {
-        first: wanted,
-        behind: None,
-    }))
+    if hole.behind.is_none() {
+        hole.first = wanted;
+    }
+    Ok(hole)
+}
+
+/// Returns the first number that no record of a log has, and the least one above it. Reads on to the end of each file, so
+/// that it is known that no two records have one number.
+pub(crate) fn find_hole<S: TextSource>(
+    alloc: Global,
+    texts: &S,
+    party: Party,
+    log: &FoundLog,
+) -> Result<Hole, Stop> {
+    let mut scan = open_scan(alloc, texts, party, log)?;
+    hole_among(alloc, texts, party, log, &mut scan)
 }

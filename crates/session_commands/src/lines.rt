@@ -23,15 +23,12 @@ fn head_words<'a>(
         2 => "{}: found {}; expected 'recording NAME'",
         _ => "{}: found {}; expected 'log {} FIRST OPENING'",
     };
-    sentence(
-        alloc,
-        form,
-        &[
-            Piece::At(path, line),
-            Piece::Quoted(found),
-            Piece::Party(party),
-        ],
-    )
+    let pieces = [
+        Piece::At(path, line),
+        Piece::Quoted(found),
+        Piece::Party(party),
+    ];
+    sentence(alloc, form, &pieces)
 }
 
 /// Returns the words on a line of a file, counted from 1, that is no record.
@@ -48,8 +45,8 @@ pub(crate) fn no_record_words<'a>(
     )
 }
 
-/// Returns the words on a line after a file's head that is none of a recorder's file, given the line before it.
-fn body_words<'a>(
+/// Returns the words on a line that is none of a recorder's file, given the line before it.
+fn found_words<'a>(
     alloc: Global,
     party: Party,
     path: &'a str,
@@ -57,6 +54,9 @@ fn body_words<'a>(
     found: &'a [u8],
     before: &'a [u8],
 ) -> Result<Vec<u8>, AllocError> {
+    if line < FIRST_RECORD {
+        return head_words(alloc, party, path, line, found);
+    }
     if line > FIRST_RECORD && Last::read(before).is_some() {
         return sentence(
             alloc,
@@ -92,16 +92,17 @@ pub(crate) fn line_words<S: TextSource>(
     line: u64,
 ) -> Result<Vec<u8>, Stop> {
     let found = line_of(alloc, texts, path, line)?;
-    if line < FIRST_RECORD {
-        return Ok(head_words(alloc, party, path, line, found.as_slice())?);
-    }
     let before = line_of(alloc, texts, path, line.saturating_sub(1))?;
-    Ok(body_words(
+    let words = found_words(
         alloc,
         party,
         path,
         line,
         found.as_slice(),
         before.as_slice(),
-    )?)
+    );
+    match words {
+        Ok(words) => Ok(words),
+        Err(_) => Err(Stop::Memory),
+    }
 }

@@ -1,6 +1,6 @@
 //! What is wrong with the records of the machine's log, in words.
 
-use crate::places::{FoundRecord, find_record, push_place, push_placed};
+use crate::places::{FoundRecord, find_record, place_of, push_place};
 use crate::stops::Stop;
 use crate::words::{Piece, push, push_sentence, word_at};
 use migration_types::MOST_CELLS;
@@ -78,33 +78,6 @@ fn push_no_record(out: &mut Vec<u8>, alloc: Global, text: &[u8]) -> Result<(), A
     }
 }
 
-/// Appends a sentence with a record's text between quotation marks, if the record stands in a file.
-fn push_found(
-    out: &mut Vec<u8>,
-    alloc: Global,
-    form: &str,
-    found: &Option<FoundRecord>,
-) -> Result<(), AllocError> {
-    let text = match found {
-        Some(found) => Piece::Quoted(found.text.as_slice()),
-        None => Piece::Text(""),
-    };
-    push_sentence(out, alloc, form, &[text])
-}
-
-/// Appends the name of a record of the machine's log, with its place. Returns the record.
-fn push_found_place<S: TextSource>(
-    out: &mut Vec<u8>,
-    alloc: Global,
-    texts: &S,
-    paths: &[String],
-    number: u64,
-) -> Result<Option<FoundRecord>, Stop> {
-    let found = find_record(alloc, texts, Party::Machine, paths, number)?;
-    push_placed(out, alloc, Party::Machine, paths, number, &found)?;
-    Ok(found)
-}
-
 /// Appends the words on a record that is none of the machine's.
 pub(crate) fn push_wrong_record<S: TextSource>(
     words: &mut Vec<u8>,
@@ -113,7 +86,7 @@ pub(crate) fn push_wrong_record<S: TextSource>(
     paths: &[String],
     number: u64,
 ) -> Result<(), Stop> {
-    let found = push_found_place(words, alloc, texts, paths, number)?;
+    let found = push_place(words, alloc, texts, Party::Machine, paths, number)?;
     push(words, ": ")?;
     if let Some(found) = &found {
         push_no_record(words, alloc, found.text.as_slice())?;
@@ -121,38 +94,62 @@ pub(crate) fn push_wrong_record<S: TextSource>(
     Ok(())
 }
 
-/// Appends the words on two records that tell how many pages there are.
-pub(crate) fn push_two_pages<S: TextSource>(
-    words: &mut Vec<u8>,
-    alloc: Global,
-    texts: &S,
-    paths: &[String],
-    one: u64,
-    other: u64,
-) -> Result<(), Stop> {
-    let second = push_found_place(words, alloc, texts, paths, one.max(other))?;
-    push_found(words, alloc, ": a second {}, beside ", &second)?;
-    let first = push_found_place(words, alloc, texts, paths, one.min(other))?;
-    push_found(words, alloc, ": {}", &first)?;
-    Ok(())
+/// Returns what a record tells, if it stands in a file: its page, or else its text between quotation marks.
+fn told_in(found: &Option<FoundRecord>, of_page: bool) -> Piece<'_> {
+    match found {
+        Some(found) if of_page => Piece::Bytes(word_at(found.text.as_slice(), 1)),
+        Some(found) => Piece::Quoted(found.text.as_slice()),
+        None => Piece::Text(""),
+    }
 }
 
-/// Appends the words on two records that tell what a page holds.
-pub(crate) fn push_page_twice<S: TextSource>(
+/// Appends the words on two records that tell what a page holds, or else how many pages there are, given where they stand.
+fn push_both<'a>(
+    words: &mut Vec<u8>,
+    alloc: Global,
+    paths: &'a [String],
+    numbers: (u64, u64),
+    first: &'a Option<FoundRecord>,
+    second: &'a Option<FoundRecord>,
+    of_page: bool,
+) -> Result<(), AllocError> {
+    let form = if of_page {
+        "{}{}: what page {} holds at first is told twice, beside {}{}"
+    } else {
+        "{}{}: a second {}, beside {}{}: {}"
+    };
+    push_sentence(
+        words,
+        alloc,
+        form,
+        &[
+            place_of(paths, second),
+            Piece::Record(Party::Machine, numbers.1),
+            told_in(second, of_page),
+            place_of(paths, first),
+            Piece::Record(Party::Machine, numbers.0),
+            told_in(first, of_page),
+        ],
+    )
+}
+
+/// Appends the words on two records that tell what a page holds, or else how many pages there are.
+pub(crate) fn push_two_records<S: TextSource>(
     words: &mut Vec<u8>,
     alloc: Global,
     texts: &S,
     paths: &[String],
     one: u64,
     other: u64,
+    of_page: bool,
 ) -> Result<(), Stop> {
-    let second = push_found_place(words, alloc, texts, paths, one.max(other))?;
-    push(words, ": what page ")?;
-    if let Some(second) = &second {
-        words.extend_from_slice(word_at(second.text.as_slice(), 1))?;
+    let numbers = (one.min(other), one.max(other));
+    let first = find_record(alloc, texts, Party::Machine, paths, numbers.0, 0)?;
+    let second = find_record(alloc, texts, Party::Machine, paths, numbers.1, 0)?;
+    match push_both(words, alloc, paths, numbers, &first, &second, of_page) {
+        Ok(()) => Ok(()),
+        Err(_) => Err(Stop::Memory),
     }
-    push(words, " holds at first is told twice, beside ")?;
-    push_place(words, alloc, texts, Party::Machine, paths, one.min(other))
 }
 
 /// Appends the words on a page that the machine does not have.

@@ -10,9 +10,9 @@ ghost use Rattle.session_commands.specs.Logs.{known_in, Describe, TellMachine};
 use crate::faults::twice_stop;
 use crate::found::{FoundLog, push_listed};
 use crate::machine_words::{
-    push_other_contents, push_outside, push_page_twice, push_two_pages, push_wrong_record,
+    push_other_contents, push_outside, push_two_records, push_wrong_record,
 };
-use crate::places::{changed_file, find_record, find_record_from, open_file};
+use crate::places::{changed_file, find_record, open_file};
 use crate::stops::Stop;
 use crate::words::{Piece, push_sentence, sentence};
 use recorder_files::{DescribeFault, Description, FileFault, MachineLog, MachineLogFault, Party};
@@ -21,15 +21,6 @@ use text_access::TextSource;
 
 /// The calls that describe a machine.
 const CALL: &str = "postcopy_record_machine, or Log.machine";
-
-/// Returns the words on a machine that no file describes.
-fn no_machine(alloc: Global) -> Result<Stop, AllocError> {
-    Ok(Stop::Unfit(sentence(
-        alloc,
-        "there is no file of the machine's log, which tells how many pages there are: {}",
-        &[Piece::Text(CALL)],
-    )?))
-}
 
 /// Appends the words on a log that does not tell how many pages there are.
 fn push_no_pages(words: &mut Vec<u8>, alloc: Global, log: &FoundLog) -> Result<(), AllocError> {
@@ -57,10 +48,10 @@ fn push_fault<S: TextSource>(
         DescribeFault::Number(number) => Err(number_twice(alloc, texts, log, number)?),
         DescribeFault::NoPages => Ok(push_no_pages(words, alloc, log)?),
         DescribeFault::Pages(one, other) => {
-            push_two_pages(words, alloc, texts, paths, one, other)
+            push_two_records(words, alloc, texts, paths, one, other, false)
         }
         DescribeFault::Page(one, other) => {
-            push_page_twice(words, alloc, texts, paths, one, other)
+            push_two_records(words, alloc, texts, paths, one, other, true)
         }
         DescribeFault::Outside {
             number,
@@ -107,16 +98,16 @@ fn number_twice<S: TextSource>(
     number: u64,
 ) -> Result<Stop, Stop> {
     let paths = log.paths.as_slice();
-    let first = match find_record(alloc, texts, Party::Machine, paths, number)? {
+    let first = match find_record(alloc, texts, Party::Machine, paths, number, 0)? {
         Some(first) => first.file,
         None => 0,
     };
     let behind = first.saturating_add(1);
-    let second = match find_record_from(alloc, texts, Party::Machine, paths, number, behind)? {
+    let second = match find_record(alloc, texts, Party::Machine, paths, number, behind)? {
         Some(second) => second.file,
         None => first,
     };
-    Ok(twice_stop(alloc, texts, Party::Machine, log, number, second))
+    twice_stop(alloc, texts, Party::Machine, log, number, second)
 }
 
 /// Takes the records of a file of the machine's log.
@@ -162,7 +153,11 @@ pub(crate) fn describe<S: TextSource>(
     ensures machine { IfOk result (λ d. (size : MachineSize) → IsMachine (record { size = size; pages = d.pages; cells = d.cells })) }
 {
     if log.is_empty() {
-        return Err(no_machine(alloc)?);
+        return Err(Stop::Unfit(sentence(
+            alloc,
+            "there is no file of the machine's log, which tells how many pages there are: {}",
+            &[Piece::Text(CALL)],
+        )?));
     }
     let taken = take_files(alloc, texts, log)?;
     match taken.describe(alloc) {

@@ -24,9 +24,8 @@ use crate::found::FoundLogs;
 use crate::machines::describe;
 use crate::recording::FileRecording;
 use crate::stops::Stop;
-use crate::telling::{check_logs, tell_empty, tell_lane, tell_logs, tell_machine, tell_unresumed};
+use crate::telling::{check_logs, tell_empty, tell_files, tell_unresumed};
 use crate::walk_stops::{check_facts, walk_stop, write_stop};
-use crate::words::push_message;
 use command_texts::{ACCEPTED, REFUSED};
 use command_words::Lacking;
 use migration_types::{LogName, Size, Version};
@@ -38,8 +37,8 @@ use text_access::{TextSource, write_whole};
 use walked_sessions::{Messages, Senders, note_messages, walk_logs, write_recording};
 
 /// What is said last where something is lacking, and is not to be left out.
-const NOTHING_WRITTEN: &str =
-    "nothing was written: repair this, or use session --cut to write what is left";
+const NOTHING_WRITTEN: &[u8] =
+    b"session: nothing was written: repair this, or use session --cut to write what is left\n";
 
 /// Goes through the logs with a visitor. Returns whether no log has a hole.
 fn walk<S: TextSource, V: Visitor>(
@@ -59,21 +58,6 @@ fn walk<S: TextSource, V: Visitor>(
     }
 }
 
-/// Goes through the logs once more, and returns the records in front of which they are cut.
-fn ends_of<S: TextSource>(
-    alloc: Global,
-    machine: &WideMachine,
-    files: &OpenedLogs<'_, S>,
-    messages: &Messages,
-    front: Front,
-) -> Result<Ends, Stop>
-    requires { IsMachine (extent_of machine.now) }
-{
-    let mut ends = Ends::new(alloc, front);
-    let _ = walk(alloc, machine, files, messages, &mut ends)?;
-    Ok(ends)
-}
-
 /// Returns the messages in the logs, given how many records the pager's has: those of the senders that were seen, or else each record
 /// of the pager and of the source is read for them. Logs are not gone through with other messages than theirs.
 fn messages_of<S: TextSource>(
@@ -87,21 +71,10 @@ fn messages_of<S: TextSource>(
 {
     match seen {
         Some(senders) => Ok(Messages::of(alloc, senders, pager)?),
-        None => noted(alloc, machine, files),
-    }
-}
-
-/// Notes the messages in the logs.
-fn noted<S: TextSource>(
-    alloc: Global,
-    machine: &WideMachine,
-    files: &OpenedLogs<'_, S>,
-) -> Result<Messages, Stop>
-    requires { IsMachine (extent_of machine.now) }
-{
-    match note_messages(alloc, machine, files) {
-        Ok(messages) => Ok(messages),
-        Err(fault) => Err(walk_stop(alloc, files.texts, machine, files.logs, fault)),
+        None => match note_messages(alloc, machine, files) {
+            Ok(messages) => Ok(messages),
+            Err(fault) => Err(walk_stop(alloc, files.texts, machine, files.logs, fault)),
+        },
     }
 }
 
@@ -109,55 +82,22 @@ fn noted<S: TextSource>(
 fn tell_cuts<S: TextSource>(
     said: &mut Vec<u8>,
     alloc: Global,
-    texts: &S,
-    logs: &FoundLogs,
+    files: &OpenedLogs<'_, S>,
     facts: &Facts,
     front: Front,
     ends: &Ends,
 ) -> Result<(), Stop>
     ensures { OnOk result ((s : Recorded) → IsNaming facts.now.naming s → SaysUnless said.old.items said.new.items (ReachIn s front)) }
 {
-    let guest = logs.guest.paths.as_slice();
-    tell_cut(
-        said,
-        alloc,
-        texts,
-        guest,
-        facts,
-        front,
-        ends,
-        LogName::Guest,
-    )?;
-    let source = logs.source.paths.as_slice();
-    tell_cut(
-        said,
-        alloc,
-        texts,
-        source,
-        facts,
-        front,
-        ends,
-        LogName::Source,
-    )?;
-    let link = logs.link.paths.as_slice();
-    tell_cut(said, alloc, texts, link, facts, front, ends, LogName::Link)?;
-    let lane = logs.lane.paths.as_slice();
-    tell_cut(said, alloc, texts, lane, facts, front, ends, LogName::Lane)?;
-    let pager = logs.pager.paths.as_slice();
-    tell_cut(
-        said,
-        alloc,
-        texts,
-        pager,
-        facts,
-        front,
-        ends,
-        LogName::Pager,
-    )?;
+    tell_cut(said, alloc, files, facts, front, ends, LogName::Guest)?;
+    tell_cut(said, alloc, files, facts, front, ends, LogName::Source)?;
+    tell_cut(said, alloc, files, facts, front, ends, LogName::Link)?;
+    tell_cut(said, alloc, files, facts, front, ends, LogName::Lane)?;
+    tell_cut(said, alloc, files, facts, front, ends, LogName::Pager)?;
     Ok(())
 }
 
-/// Adds which records a front leaves out, and why.
+/// Adds which records a front leaves out, and why. The logs are gone through once more for that.
 fn tell_left_out<S: TextSource>(
     said: &mut Vec<u8>,
     alloc: Global,
@@ -173,28 +113,9 @@ fn tell_left_out<S: TextSource>(
     if facts.naming.counts() == front {
         return Ok(());
     }
-    let ends = ends_of(alloc, machine, files, messages, front)?;
-    tell_cuts(said, alloc, files.texts, files.logs, facts, front, &ends)
-}
-
-/// Adds what is said of the records of the logs, once they were gone through. The front of them is written.
-fn tell_facts<S: TextSource>(
-    said: &mut Vec<u8>,
-    alloc: Global,
-    machine: &WideMachine,
-    files: &OpenedLogs<'_, S>,
-    messages: &Messages,
-    facts: &Facts,
-    front: Front,
-) -> Result<(), Stop>
-    requires { IsMachine (extent_of machine.now) }
-    ensures { OnOk result ((s : Recorded) → IsNaming facts.now.naming s → SaysUnless said.old.items said.new.items (ReachIn s front × SomeIn (log_length s))) }
-{
-    let guest = files.logs.guest.paths.as_slice();
-    tell_unresumed(said, alloc, files.texts, guest, facts)?;
-    tell_left_out(said, alloc, machine, files, messages, facts, front)?;
-    tell_empty(said, alloc, facts.naming.counts())?;
-    Ok(())
+    let mut ends = Ends::new(alloc, front);
+    let _ = walk(alloc, machine, files, messages, &mut ends)?;
+    tell_cuts(said, alloc, files, facts, front, &ends)
 }
 
 /// A recording that was gone through, and is not yet written or held.
@@ -248,7 +169,9 @@ fn judge_facts<S: TextSource>(
         has_all,
     )?;
     let front = facts.written_front();
-    tell_facts(said, alloc, machine, files, messages, facts, front)?;
+    tell_unresumed(said, alloc, files, facts)?;
+    tell_left_out(said, alloc, machine, files, messages, facts, front)?;
+    tell_empty(said, alloc, facts.naming.counts())?;
     Ok(front)
 }
 
@@ -312,17 +235,15 @@ pub(crate) fn know<S: TextSource, V: Visitor>(
 {
     check_logs(alloc, texts, logs)?;
     let description = describe(alloc, texts, &logs.machine)?;
+    let files = OpenedLogs { texts, logs };
     let mut said = Vec::new(alloc);
-    tell_machine(&mut said, alloc, texts, &logs.machine, &description)?;
-    tell_lane(&mut said, alloc, description.has_lane, &logs.lane)?;
-    let expected = tell_logs(&mut said, alloc, texts, logs)?;
+    let expected = tell_files(&mut said, alloc, &files, &description)?;
     let machine = WideMachine {
         version: Version::Two,
         size: Size::Large,
         pages: description.pages,
         cells: description.cells,
     };
-    let files = OpenedLogs { texts, logs };
     let seen = see(
         finder, &mut said, alloc, &machine, &files, senders, expected,
     )?;
@@ -359,7 +280,9 @@ pub(crate) fn know_facts<S: TextSource>(
     ensures { IfOk result (λ known. IsKnown (S.bytes_of texts.now) logs.now known) }
 {
     let mut finder = FactFinder::new(alloc, Nobody, counts_of(logs)?);
-    know(&mut finder, alloc, texts, logs, None)
+    let known = know(&mut finder, alloc, texts, logs, None);
+    drop(finder);
+    known
 }
 
 /// Writes the text of a recording as its files are read.
@@ -398,43 +321,48 @@ fn write<S: TextSource, O: Write>(
     }
 }
 
-/// Says what is lacking, and that nothing was written.
+/// Says what is lacking, if anything is, and that nothing was written, unless what is left is asked for. Returns whether the rest is
+/// to be made.
 #[tactic(auto, using(crate::proofs::Gained::same, crate::proofs::Gained::front, crate::proofs::Gained::both))]
-pub(crate) fn refuse<E: Write>(said: Vec<u8>, errors: &mut E) -> Result<u8, Stop>
-    ensures refused { IfOk result (λ status. status ≡ 1) }
+pub(crate) fn say_lacking<E: Write>(said: &[u8], lacking: Lacking, errors: &mut E) -> bool
+    ensures asked { IsTrue result → lacking ≡ Refused → said.now ≡ [] }
     ensures gains { Gains (E.contents errors.old) (E.contents errors.new) }
 {
-    let mut said = said;
-    push_message(&mut said, NOTHING_WRITTEN.as_bytes())?;
-    write_whole(errors, said.as_slice());
-    Ok(REFUSED)
+    if said.is_empty() {
+        return true;
+    }
+    let is_told = write_whole(errors, said);
+    match lacking {
+        Lacking::Cut => true,
+        Lacking::Refused => {
+            if is_told {
+                write_whole(errors, NOTHING_WRITTEN);
+            }
+            false
+        }
+    }
 }
 
-/// Writes the text of a recording, if nothing is lacking or it is to be cut. Says what is lacking.
+/// Writes the text of the recording that the files of logs make, if nothing is lacking or it is to be cut. Says what is lacking.
+#[tactic(auto, using(crate::proofs::Gained::same, crate::proofs::Gained::front, crate::proofs::Gained::both))]
 pub(crate) fn settle<S: TextSource, O: Write, E: Write>(
     alloc: Global,
     texts: &S,
     lacking: Lacking,
     logs: &FoundLogs,
-    known: Known,
     output: &mut O,
     errors: &mut E,
 ) -> Result<u8, Stop>
-    requires { IsKnown (S.bytes_of texts.now) logs.now known }
     ensures few { IfOk result (λ status. status < 2) }
     ensures written { IfOk result (λ status. status ≡ 0 → WritesText (S.bytes_of texts.now) logs.now lacking (O.contents output.old) (O.contents output.new)) }
     ensures refused { IfOk result (λ status. status ≡ 1 → Keeps (O.contents output.old) (O.contents output.new)) }
     ensures unfit { IfErr result (λ stop. IsUnfit stop → Keeps (O.contents output.old) (O.contents output.new)) }
     ensures gains { BothGain (O.contents output.old, E.contents errors.old) (O.contents output.new, E.contents errors.new) }
 {
-    if known.said.is_empty() {
-        return write(alloc, texts, lacking, logs, known, output);
+    let known = know_facts(alloc, texts, logs)?;
+    if !say_lacking(known.said.as_slice(), lacking, errors) {
+        drop(known);
+        return Ok(REFUSED);
     }
-    match lacking {
-        Lacking::Refused => refuse(known.said, errors),
-        Lacking::Cut => {
-            write_whole(errors, known.said.as_slice());
-            write(alloc, texts, lacking, logs, known, output)
-        }
-    }
+    write(alloc, texts, lacking, logs, known, output)
 }

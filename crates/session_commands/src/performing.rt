@@ -10,18 +10,20 @@ ghost use Rattle.text_access.specs.Written.{BothGain, Gains};
 ghost use Rattle.session_commands.specs.Texts.{WritesSession};
 ghost use Rattle.session_commands.specs.inner.Seen.{IsUnfit};
 
-use crate::compressed::tell_compressed;
 use crate::found::{FoundFiles, find_files};
-use crate::making::{know_facts, refuse, settle};
+use crate::making::{say_lacking, settle};
 use crate::stops::Stop;
 use crate::surveys::find_logs;
-use crate::words::push_message;
+use crate::words::{Piece, push_message, tell_each};
 use command_texts::{Console, Fault, REFUSED, STANDARD_OUTPUT, given, tell};
 use command_words::Lacking;
 use recorder_files::NoOnlooker;
 use std::alloc::{AllocError, Global};
 use std::io::Write;
 use text_access::{TextSource, write_whole};
+
+/// What is said of a file that is only there compressed, with nothing in front of its name.
+const COMPRESSED: &str = "{}{} is compressed, and is not read: unpack it first";
 
 /// Says which recorders' files are only there compressed. They are left out, if that is asked for. Returns whether the others are to be
 /// read.
@@ -31,25 +33,13 @@ pub(crate) fn leave_out<E: Write>(
     lacking: Lacking,
     compressed: &[String],
     errors: &mut E,
-) -> Result<bool, Stop>
+) -> Result<bool, AllocError>
     ensures asked { IfOk result (λ goes_on. IsTrue goes_on → lacking ≡ Refused → compressed.now ≡ []) }
     ensures gains { Gains (E.contents errors.old) (E.contents errors.new) }
 {
     let mut said = Vec::new(alloc);
-    tell_compressed(&mut said, alloc, compressed)?;
-    if said.is_empty() {
-        return Ok(true);
-    }
-    match lacking {
-        Lacking::Refused => {
-            refuse(said, errors)?;
-            Ok(false)
-        }
-        Lacking::Cut => {
-            write_whole(errors, said.as_slice());
-            Ok(true)
-        }
-    }
+    tell_each(&mut said, alloc, COMPRESSED, Piece::Text(""), compressed)?;
+    Ok(say_lacking(said.as_slice(), lacking, errors))
 }
 
 /// Makes the session of the files that were found in folders, and says what else is lacking.
@@ -72,8 +62,9 @@ fn make_of<S: TextSource, O: Write, E: Write>(
     ensures gains { BothGain (O.contents output.old, E.contents errors.old) (O.contents output.new, E.contents errors.new) }
 {
     let logs = find_logs(alloc, texts, folders, found, &mut NoOnlooker)?;
-    let known = know_facts(alloc, texts, &logs)?;
-    settle(alloc, texts, lacking, &logs, known, output, errors)
+    let status = settle(alloc, texts, lacking, &logs, output, errors);
+    drop(logs);
+    status
 }
 
 /// Makes the session of the files in folders, and says what is lacking.
@@ -95,9 +86,12 @@ fn make<S: TextSource, O: Write, E: Write>(
     let found = find_files(alloc, texts, folders)?;
     let goes_on = leave_out(alloc, lacking, found.compressed.as_slice(), errors)?;
     if !goes_on {
+        drop(found);
         return Ok(REFUSED);
     }
-    make_of(alloc, texts, lacking, folders, &found, output, errors)
+    let status = make_of(alloc, texts, lacking, folders, &found, output, errors);
+    drop(found);
+    status
 }
 
 /// Reports why the files make no session.

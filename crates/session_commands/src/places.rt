@@ -103,8 +103,20 @@ pub(crate) fn find_in<R: Read + Drop>(
     Ok(None)
 }
 
-/// Returns the record of this number in the files of a log, from one of them on.
-pub(crate) fn find_record_from<S: TextSource>(
+/// Returns the record of this number in the file of a log under a name, with its line.
+fn find_under<S: TextSource>(
+    alloc: Global,
+    texts: &S,
+    party: Party,
+    path: &str,
+    number: u64,
+) -> Result<Option<(u64, Vec<u8>)>, Stop> {
+    let mut file = open_file(alloc, texts, party, path)?;
+    Ok(find_in(alloc, &mut file, number)?)
+}
+
+/// Returns the record of this number in the files of a log, from one of them on, counted from 0.
+pub(crate) fn find_record<S: TextSource>(
     alloc: Global,
     texts: &S,
     party: Party,
@@ -113,44 +125,25 @@ pub(crate) fn find_record_from<S: TextSource>(
     first: usize,
 ) -> Result<Option<FoundRecord>, Stop> {
     for file in first..paths.len() {
-        let mut reader = open_file(alloc, texts, party, paths[file].as_str())?;
-        if let Some((line, text)) = find_in(alloc, &mut reader, number)? {
+        let path = paths[file].as_str();
+        if let Some((line, text)) = find_under(alloc, texts, party, path, number)? {
             return Ok(Some(FoundRecord { file, line, text }));
         }
     }
     Ok(None)
 }
 
-/// Returns the record of this number in the files of a log.
-pub(crate) fn find_record<S: TextSource>(
-    alloc: Global,
-    texts: &S,
-    party: Party,
-    paths: &[String],
-    number: u64,
-) -> Result<Option<FoundRecord>, Stop> {
-    find_record_from(alloc, texts, party, paths, number, 0)
-}
-
-/// Appends the name of a record, with its place if it stands in a file.
-pub(crate) fn push_placed(
-    out: &mut Vec<u8>,
-    alloc: Global,
-    party: Party,
-    paths: &[String],
-    number: u64,
-    placed: &Option<FoundRecord>,
-) -> Result<(), AllocError> {
-    if let Some(placed) = placed {
-        if placed.file < paths.len() {
-            let at = Piece::At(paths[placed.file].as_str(), placed.line);
-            push_sentence(out, alloc, "{}: ", &[at])?;
+/// Returns the place of a record, in front of its name, if it stands in a file of a log.
+pub(crate) fn place_of<'a>(paths: &'a [String], placed: &Option<FoundRecord>) -> Piece<'a> {
+    match placed {
+        Some(placed) if placed.file < paths.len() => {
+            Piece::In(paths[placed.file].as_str(), placed.line)
         }
+        _ => Piece::Text(""),
     }
-    push_sentence(out, alloc, "{}", &[Piece::Record(party, number)])
 }
 
-/// Appends the name of a record, with its place, which is searched for.
+/// Appends the name of a record, with its place, which is searched for. Returns the record.
 pub(crate) fn push_place<S: TextSource>(
     out: &mut Vec<u8>,
     alloc: Global,
@@ -158,10 +151,11 @@ pub(crate) fn push_place<S: TextSource>(
     party: Party,
     paths: &[String],
     number: u64,
-) -> Result<(), Stop> {
-    let placed = find_record(alloc, texts, party, paths, number)?;
-    push_placed(out, alloc, party, paths, number, &placed)?;
-    Ok(())
+) -> Result<Option<FoundRecord>, Stop> {
+    let placed = find_record(alloc, texts, party, paths, number, 0)?;
+    let record = Piece::Record(party, number);
+    push_sentence(out, alloc, "{}{}", &[place_of(paths, &placed), record])?;
+    Ok(placed)
 }
 
 /// Returns why a file of a log was not read.
@@ -253,18 +247,22 @@ fn read_wanted<R: Read>(
     wanted: &mut LineSearch,
 ) -> Result<bool, AllocError> {
     let mut piece = vec![in alloc; 0u8; PIECE]?;
+    let mut is_read = true;
     for _ in 0..u64::MAX {
         match reader.read(piece.as_mut_slice()) {
-            Ok(0) => return Ok(true),
+            Ok(0) => break,
             Ok(count) => wanted.take(&piece[..count])?,
             Err(error) if error.kind() == ErrorKind::Interrupted => {}
-            Err(_) => return Ok(false),
+            Err(_) => {
+                is_read = false;
+                break;
+            }
         }
         if wanted.is_found {
-            return Ok(true);
+            break;
         }
     }
-    Ok(false)
+    Ok(is_read)
 }
 
 /// Returns the line of this number in the file under a name, counted from 1.

@@ -6,7 +6,7 @@ ghost use Rattle.recorder_files.specs.Said.{CameTo};
 ghost use Rattle.recorder_files.specs.Surveys.{IsSurveyOf};
 ghost use Rattle.text_access.specs.Names.{names_of};
 ghost use Rattle.session_commands.specs.Found.{AreFound, IsFoundIn};
-ghost use Rattle.session_commands.specs.inner.Finding.{GetsFile, IsReadAs, TakesFile, Under};
+ghost use Rattle.session_commands.specs.inner.Finding.{AreLogsOf, GetsFile, IsReadAs, TakesFile, Under};
 
 use crate::faults::{Surveying, file_stop};
 use crate::found::{FoundFile, FoundFiles, FoundLog, FoundLogs, joined, none};
@@ -26,24 +26,41 @@ struct Recording {
     path: String,
 }
 
-/// Returns the words on a file of another recording.
-fn other_words(
+/// What is said behind two files of two recordings.
+const TWO_RECORDINGS: &str =
+    ": these are two recordings, each of which has its own session (a folder at a second machine is given the \
+                              name: postcopy_recording_join, or join)";
+
+/// Returns the words on a file that has the name of another recording, or names one.
+fn other_words<'a>(
     alloc: Global,
-    recording: &Recording,
-    name: &[u8],
-    path: &str,
+    recording: &'a Recording,
+    name: Option<&'a [u8]>,
+    path: &'a str,
 ) -> Result<Vec<u8>, AllocError> {
-    sentence(
-        alloc,
-        "{} is of the recording {}, and {} of the recording {}: these are two recordings, each of which has its own \
-         session (a folder at a second machine is given the name: postcopy_recording_join, or join)",
-        &[
-            Piece::Text(path),
-            Piece::Bytes(name),
-            Piece::Text(recording.path.as_str()),
-            Piece::Bytes(recording.name.as_slice()),
-        ],
-    )
+    match name {
+        Some(name) => sentence(
+            alloc,
+            "{} is of the recording {}, and {} of the recording {}{}",
+            &[
+                Piece::Text(path),
+                Piece::Bytes(name),
+                Piece::Text(recording.path.as_str()),
+                Piece::Bytes(recording.name.as_slice()),
+                Piece::Text(TWO_RECORDINGS),
+            ],
+        ),
+        None => sentence(
+            alloc,
+            "{} names another recording, and {} is of the recording {}{}",
+            &[
+                Piece::Text(path),
+                Piece::Text(recording.path.as_str()),
+                Piece::Bytes(recording.name.as_slice()),
+                Piece::Text(TWO_RECORDINGS),
+            ],
+        ),
+    }
 }
 
 /// Takes the name of the recording that a file has. It is the same in all files.
@@ -57,7 +74,7 @@ fn take_name(
 {
     if let Some(recording) = recording {
         if recording.name.as_slice() != name {
-            return Err(Stop::Unfit(other_words(alloc, recording, name, path)?));
+            return Err(Stop::Unfit(other_words(alloc, recording, Some(name), path)?));
         }
         recording.path = String::from_str(alloc, path)?;
         return Ok(());
@@ -67,24 +84,6 @@ fn take_name(
         path: String::from_str(alloc, path)?,
     });
     Ok(())
-}
-
-/// Returns the words on a file that names another recording.
-fn other_name_words(
-    alloc: Global,
-    recording: &Recording,
-    path: &str,
-) -> Result<Vec<u8>, AllocError> {
-    sentence(
-        alloc,
-        "{} names another recording, and {} is of the recording {}: these are two recordings, each of which has its own \
-         session (a folder at a second machine is given the name: postcopy_recording_join, or join)",
-        &[
-            Piece::Text(path),
-            Piece::Text(recording.path.as_str()),
-            Piece::Bytes(recording.name.as_slice()),
-        ],
-    )
 }
 
 /// Returns whether there is no file under a name.
@@ -98,22 +97,21 @@ fn is_gone<S: TextSource>(texts: &S, path: &str) -> bool {
     }
 }
 
-/// Checks that a folder does not name another recording than its files do. It may name none.
+/// Checks that the file in which a folder names its recording does not name another one. It may be gone.
 fn check_name<S: TextSource>(
     alloc: Global,
     texts: &S,
-    folder: &str,
+    path: &str,
     recording: &Recording,
 ) -> Result<(), Stop> {
-    let path = joined(alloc, folder, NAME_FILE)?;
-    if is_gone(texts, path.as_str()) {
+    if is_gone(texts, path) {
         return Ok(());
     }
-    let name = line_of(alloc, texts, path.as_str(), 1)?;
+    let name = line_of(alloc, texts, path, 1)?;
     if name.as_slice() == recording.name.as_slice() {
         return Ok(());
     }
-    Err(Stop::Unfit(other_name_words(alloc, recording, path.as_str())?))
+    Err(Stop::Unfit(other_words(alloc, recording, None, path)?))
 }
 
 /// Checks that no folder names another recording than the files do, if a file has a name.
@@ -127,7 +125,8 @@ fn check_names<S: TextSource>(
         return Ok(());
     };
     for place in 0..folders.len() {
-        check_name(alloc, texts, folders[place], recording)?;
+        let path = joined(alloc, folders[place], NAME_FILE)?;
+        check_name(alloc, texts, path.as_str(), recording)?;
     }
     Ok(())
 }
@@ -167,15 +166,9 @@ fn survey_text<S: TextSource, O: Onlooker>(
         Ok(Some(reader)) => {
             let mut reader = reader;
             take_name(alloc, recording, reader.name(), path)?;
-            let found = survey_records(
-                alloc,
-                texts,
-                party,
-                path,
-                surveying,
-                &mut reader,
-                onlooker,
-            )?;
+            let found = survey_records(alloc, texts, party, path, surveying, &mut reader, onlooker);
+            drop(reader);
+            let found = found?;
             Ok(Some(found))
         }
         Ok(None) => Ok(None),
@@ -270,23 +263,22 @@ fn survey_file<S: TextSource, O: Onlooker>(
     Ok(())
 }
 
-/// Reads each file of the folders that were named to its end. Returns the files of each log, with what each says but for its records.
+/// Reads each file of the folders that were named to its end. Adds it to its log, with what it says but for its records.
 fn survey_files<S: TextSource, O: Onlooker>(
     alloc: Global,
     texts: &S,
     named: &[&str],
     files: &[FoundFile],
+    logs: &mut FoundLogs,
     onlooker: &mut O,
-) -> Result<FoundLogs, Stop>
-    ensures { IfOk result (λ logs. (folders : List (List ℕ)) → AreFound (S.names_in texts.now) folders files.now → IsFoundIn (S.names_in texts.now) (S.bytes_of texts.now) folders logs) }
+) -> Result<(), Stop>
+    ensures { OnOk result ((folders : List (List ℕ)) → ((name : List ℕ) → AreLogsOf (S.bytes_of texts.now) name [] logs.old) → AreFound (S.names_in texts.now) folders files.now → IsFoundIn (S.names_in texts.now) (S.bytes_of texts.now) folders logs.new) }
 {
-    let mut logs = FoundLogs::new(alloc);
     let mut recording = None;
     for file in files {
-        survey_file(alloc, texts, file, &mut logs, &mut recording, onlooker)?;
+        survey_file(alloc, texts, file, logs, &mut recording, onlooker)?;
     }
-    check_names(alloc, texts, named, &recording)?;
-    Ok(logs)
+    check_names(alloc, texts, named, &recording)
 }
 
 /// Returns the logs of the recorders' files that were found in folders, each of which is read to its end. The onlooker sees each record
@@ -308,5 +300,13 @@ pub(crate) fn find_logs<S: TextSource, O: Onlooker>(
     if found.files.is_empty() {
         return Err(none(alloc, folders)?);
     }
-    survey_files(alloc, texts, folders, found.files.as_slice(), onlooker)
+    let files = found.files.as_slice();
+    let mut logs = FoundLogs::new(alloc);
+    match survey_files(alloc, texts, folders, files, &mut logs, onlooker) {
+        Ok(()) => Ok(logs),
+        Err(stop) => {
+            drop(logs);
+            Err(stop)
+        }
+    }
 }

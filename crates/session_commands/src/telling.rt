@@ -1,20 +1,22 @@
 //! What a recording lacks by its files and by its records, told before anything is written.
 
-ghost use Rattle.std.specs.Prelude.{◌≡◌, ◌≢◌, [], None, OnOk, ◌<◌, ⊤};
+ghost use Rattle.std.specs.Prelude.{◌≡◌, None, OnOk, ◌<◌, ⊤};
 ghost use Rattle.migration_types.specs.declared.records.LogName.{LogName as Log};
+ghost use Rattle.recorder_files.specs.declared.lines.Party.{Party as Writer};
 ghost use Rattle.session_commands.specs.Telling.{SaysUnless};
-ghost use Rattle.session_commands.specs.Logs.{log_in, HasAll, IsLaneAsTold};
+ghost use Rattle.session_commands.specs.Logs.{log_in, log_of, HasAll, IsLaneAsTold};
 ghost use Rattle.migration_types.specs.Sessions.{Recorded};
 ghost use Rattle.recorder_files.specs.Fronts.{cursors_of};
 ghost use Rattle.session_commands.specs.Facts.{IsFacts, SomeIn};
 ghost use Rattle.session_commands.specs.Unresumed.{NeverUnresumed};
 
 use crate::facts::Facts;
+use crate::files::OpenedLogs;
 use crate::found::{FoundLog, FoundLogs};
 use crate::lacks::{Hole, count_of, find_hole, tell_lacks, tell_missing};
-use crate::places::push_place;
+use crate::places::{find_record, place_of};
 use crate::stops::Stop;
-use crate::words::{Piece, line_on, push, push_message, push_sentence};
+use crate::words::{Piece, tell_sentence};
 use migration_types::LogName;
 use recorder_files::{Description, Front, Party};
 use std::alloc::{AllocError, Global};
@@ -53,13 +55,13 @@ pub(crate) fn check_logs<S: TextSource>(
 fn tell_log<S: TextSource>(
     said: &mut Vec<u8>,
     alloc: Global,
-    texts: &S,
+    files: &OpenedLogs<'_, S>,
     party: Party,
-    log: &FoundLog,
     known: Option<Hole>,
 ) -> Result<u64, Stop>
-    ensures { OnOk result (SaysUnless said.old.items said.new.items (HasAll log.now × (known ≡ None))) }
+    ensures { OnOk result (SaysUnless said.old.items said.new.items (HasAll (log_of files.now.logs.now party) × (known ≡ None))) }
 {
+    let log = files.logs.log(party);
     let count = tell_lacks(said, alloc, party, log)?;
     let hole = match known {
         Some(hole) => hole,
@@ -67,7 +69,7 @@ fn tell_log<S: TextSource>(
             if log.records()? == count {
                 return Ok(count);
             }
-            find_hole(alloc, texts, party, log)?
+            find_hole(alloc, files.texts, party, log)?
         }
     };
     tell_missing(said, alloc, party, log, count, hole)?;
@@ -87,32 +89,8 @@ fn hole_in(machine: &Description) -> Option<Hole>
     }
 }
 
-/// Adds what is said of the machine's log.
-pub(crate) fn tell_machine<S: TextSource>(
-    said: &mut Vec<u8>,
-    alloc: Global,
-    texts: &S,
-    log: &FoundLog,
-    machine: &Description,
-) -> Result<(), Stop>
-    ensures { OnOk result (SaysUnless said.old.items said.new.items (HasAll log.now × (machine.now.behind ≡ None))) }
-{
-    let known = hole_in(machine);
-    tell_log(said, alloc, texts, Party::Machine, log, known)?;
-    Ok(())
-}
-
-/// Adds that the lane's log has no file, or that the machine's log does not tell of it.
-fn push_lane(said: &mut Vec<u8>, alloc: Global, form: &str) -> Result<(), AllocError>
-    ensures { OnOk result (said.new.items ≢ []) }
-{
-    let mut line = line_on(alloc, Party::Of(LogName::Lane), 0)?;
-    push_sentence(&mut line, alloc, form, &[Piece::Text(LANE_CALL)])?;
-    push_message(said, line.as_slice())
-}
-
 /// Adds what is said where the lane's log has files and the machine's log tells that there is none, or the other way round.
-pub(crate) fn tell_lane(
+fn tell_lane(
     said: &mut Vec<u8>,
     alloc: Global,
     has_lane: Option<bool>,
@@ -127,62 +105,27 @@ pub(crate) fn tell_lane(
         return Ok(());
     }
     let form = if has_lane {
-        "there is no file of its log, of which the machine's log tells ({})"
+        "{}: there is no file of its log, of which the machine's log tells ({})"
     } else {
-        "the machine's log tells that it has no log: where it has one, call {}"
+        "{}: the machine's log tells that it has no log: where it has one, call {}"
     };
-    push_lane(said, alloc, form)
+    let lane = Piece::Party(Party::Of(LogName::Lane));
+    tell_sentence(said, alloc, form, &[lane, Piece::Text(LANE_CALL)])
 }
 
 /// Adds what is said of each log. Returns how many records of each come before the first number that no record has.
-pub(crate) fn tell_logs<S: TextSource>(
+fn tell_logs<S: TextSource>(
     said: &mut Vec<u8>,
     alloc: Global,
-    texts: &S,
-    logs: &FoundLogs,
+    files: &OpenedLogs<'_, S>,
 ) -> Result<Front, Stop>
-    ensures { OnOk result (SaysUnless said.old.items said.new.items ((name : Log) → HasAll (log_in logs.now name))) }
+    ensures { OnOk result (SaysUnless said.old.items said.new.items ((name : Log) → HasAll (log_in files.now.logs.now name))) }
 {
-    let guest = tell_log(
-        said,
-        alloc,
-        texts,
-        Party::Of(LogName::Guest),
-        &logs.guest,
-        None,
-    )?;
-    let source = tell_log(
-        said,
-        alloc,
-        texts,
-        Party::Of(LogName::Source),
-        &logs.source,
-        None,
-    )?;
-    let link = tell_log(
-        said,
-        alloc,
-        texts,
-        Party::Of(LogName::Link),
-        &logs.link,
-        None,
-    )?;
-    let lane = tell_log(
-        said,
-        alloc,
-        texts,
-        Party::Of(LogName::Lane),
-        &logs.lane,
-        None,
-    )?;
-    let pager = tell_log(
-        said,
-        alloc,
-        texts,
-        Party::Of(LogName::Pager),
-        &logs.pager,
-        None,
-    )?;
+    let guest = tell_log(said, alloc, files, Party::Of(LogName::Guest), None)?;
+    let source = tell_log(said, alloc, files, Party::Of(LogName::Source), None)?;
+    let link = tell_log(said, alloc, files, Party::Of(LogName::Link), None)?;
+    let lane = tell_log(said, alloc, files, Party::Of(LogName::Lane), None)?;
+    let pager = tell_log(said, alloc, files, Party::Of(LogName::Pager), None)?;
     Ok(Front {
         guest,
         source,
@@ -192,12 +135,26 @@ pub(crate) fn tell_logs<S: TextSource>(
     })
 }
 
+/// Adds what is said of the files of each log and of the machine's, given the machine that they describe. Returns how many records
+/// of each come before the first number that no record has.
+pub(crate) fn tell_files<S: TextSource>(
+    said: &mut Vec<u8>,
+    alloc: Global,
+    files: &OpenedLogs<'_, S>,
+    machine: &Description,
+) -> Result<Front, Stop>
+    ensures { OnOk result (SaysUnless said.old.items said.new.items (((party : Writer) → HasAll (log_of files.now.logs.now party)) × (machine.now.behind ≡ None) × IsLaneAsTold machine.now.has_lane files.now.logs.now.lane)) }
+{
+    tell_log(said, alloc, files, Party::Machine, hole_in(machine))?;
+    tell_lane(said, alloc, machine.has_lane, &files.logs.lane)?;
+    tell_logs(said, alloc, files)
+}
+
 /// Adds what is said of a guest that runs after its halt without a resume.
 pub(crate) fn tell_unresumed<S: TextSource>(
     said: &mut Vec<u8>,
     alloc: Global,
-    texts: &S,
-    paths: &[String],
+    files: &OpenedLogs<'_, S>,
     facts: &Facts,
 ) -> Result<(), Stop>
     ensures unless { OnOk result (SaysUnless said.old.items said.new.items ⊤) }
@@ -208,21 +165,20 @@ pub(crate) fn tell_unresumed<S: TextSource>(
         return Ok(());
     };
     let party = Party::Of(LogName::Guest);
-    let mut line = line_on(alloc, party, 0)?;
-    push_place(
-        &mut line,
+    let paths = files.logs.guest.paths.as_slice();
+    let number = halt.saturating_add(1);
+    let placed = find_record(alloc, files.texts, party, paths, number, 0)?;
+    tell_sentence(
+        said,
         alloc,
-        texts,
-        party,
-        paths,
-        halt.saturating_add(1),
+        "{}: {}{} comes after the halt, and there is no resume: postcopy_record_resume, or Log.resume, where the guest \
+         runs at the target",
+        &[
+            Piece::Party(party),
+            place_of(paths, &placed),
+            Piece::Record(party, number),
+        ],
     )?;
-    push(
-        &mut line,
-        " comes after the halt, and there is no resume: postcopy_record_resume, or Log.resume, where the guest runs at \
-         the target",
-    )?;
-    push_message(said, line.as_slice())?;
     Ok(())
 }
 
@@ -238,9 +194,12 @@ fn tell_if_empty(
     if counts.of(name) > 0 {
         return Ok(());
     }
-    let mut line = line_on(alloc, Party::Of(name), 0)?;
-    push(&mut line, "there is no record")?;
-    push_message(said, line.as_slice())
+    tell_sentence(
+        said,
+        alloc,
+        "{}: there is no record",
+        &[Piece::Party(Party::Of(name))],
+    )
 }
 
 /// Adds which logs have no record. A recording may be without a lane.

@@ -7,9 +7,9 @@ use crate::facts::Facts;
 use crate::files::OpenedLogs;
 use crate::found::FoundLogs;
 use crate::lacks::find_hole;
-use crate::places::{FoundRecord, find_record, push_placed, unopened_file, unread_file};
+use crate::places::{FoundRecord, find_record, place_of, unopened_file, unread_file};
 use crate::stops::Stop;
-use crate::words::{Piece, push_sentence};
+use crate::words::{Piece, part_at, sentence};
 use crate::wrong_records::record_words;
 use migration_types::{LOGS, LogName};
 use recorder_files::{FileFault, Front, GatherFault, LogFault, Party};
@@ -52,36 +52,33 @@ fn log_stop<S: TextSource>(
     }
 }
 
-/// Returns the words in front of the first dash of a text.
-fn before_dash(text: &[u8]) -> &[u8] {
-    text.split(|byte| *byte == b'-').next().unwrap_or(text)
-}
-
 /// Returns the words on a record that takes a message of a log, which has records of its own, given where it stands.
-fn own_log_words(
+fn own_log_words<'a>(
     alloc: Global,
     party: Party,
-    paths: &[String],
+    paths: &'a [String],
     own: LogName,
     number: u64,
-    placed: &Option<FoundRecord>,
+    placed: &'a Option<FoundRecord>,
 ) -> Result<Vec<u8>, AllocError> {
-    let mut words = Vec::new(alloc);
-    push_placed(&mut words, alloc, party, paths, number, placed)?;
     let (line, word) = match placed {
         Some(placed) => {
             let text = placed.text.as_slice();
-            (Piece::Spelled(text), Piece::Bytes(before_dash(text)))
+            (Piece::Spelled(text), Piece::Bytes(part_at(text, b'-', 0)))
         }
         None => (Piece::Text(""), Piece::Text("")),
     };
-    push_sentence(
-        &mut words,
+    sentence(
         alloc,
-        ", {}: the {} has a log of its own, whose number '{}' names",
-        &[line, Piece::Text(own.word()), word],
-    )?;
-    Ok(words)
+        "{}{}, {}: the {} has a log of its own, whose number '{}' names",
+        &[
+            place_of(paths, placed),
+            Piece::Record(party, number),
+            line,
+            Piece::Text(own.word()),
+            word,
+        ],
+    )
 }
 
 /// Returns why a log was not gone through: this record takes a message of a log, which has records of its own.
@@ -95,30 +92,29 @@ fn own_log_stop<S: TextSource>(
 ) -> Result<Stop, Stop> {
     let party = Party::Of(name);
     let paths = logs.log(party).paths.as_slice();
-    let placed = find_record(alloc, texts, party, paths, number)?;
-    Ok(Stop::Unfit(own_log_words(alloc, party, paths, own, number, &placed)?))
+    let placed = find_record(alloc, texts, party, paths, number, 0)?;
+    match own_log_words(alloc, party, paths, own, number, &placed) {
+        Ok(words) => Ok(Stop::Unfit(words)),
+        Err(_) => Err(Stop::Memory),
+    }
 }
 
 /// The cause if the files of a recording have changed since they were surveyed.
 const CHANGED: &str = "a file of this recording was not read to its end, or has changed since";
 
-/// Returns the folder of a file.
-fn folder_of(path: &str) -> &str {
-    match path.rsplit_once('/') {
-        Some((folder, _)) => folder,
-        None => path,
-    }
-}
-
 /// Returns the fault of files that have changed since they were surveyed. The folder of the machine's file stands for them all.
 pub(crate) fn changed(alloc: Global, logs: &FoundLogs) -> Stop
     ensures { IsUnfit result → ⊥ }
 {
-    let first = match logs.machine.paths.as_slice().first() {
-        Some(path) => folder_of(path.as_str()),
+    let path = match logs.machine.paths.as_slice().first() {
+        Some(path) => path.as_str(),
         None => "",
     };
-    match String::from_str(alloc, first) {
+    let folder = match path.rsplit_once('/') {
+        Some((folder, _)) => folder,
+        None => path,
+    };
+    match String::from_str(alloc, folder) {
         Ok(folder) => Stop::File(folder, CHANGED),
         Err(_) => Stop::Memory,
     }
@@ -143,18 +139,7 @@ pub(crate) fn walk_stop<S: TextSource>(
     }
 }
 
-/// Returns why the logs were not gone through once more, which were gone through before. So files that make no session have
-/// changed.
-fn later_stop(alloc: Global, logs: &FoundLogs, stop: Stop) -> Stop
-    ensures { IsUnfit result → ⊥ }
-{
-    match stop {
-        Stop::Unfit(_) => changed(alloc, logs),
-        stop => stop,
-    }
-}
-
-/// Returns why the text was not written.
+/// Returns why the text was not written. The logs were gone through before, so files that make no session have changed.
 pub(crate) fn write_stop<S: TextSource>(
     alloc: Global,
     texts: &S,
@@ -165,9 +150,10 @@ pub(crate) fn write_stop<S: TextSource>(
     ensures { IsUnfit result → ⊥ }
 {
     match fault {
-        WriteFault::Recording(fault) => {
-            later_stop(alloc, logs, walk_stop(alloc, texts, machine, logs, fault))
-        }
+        WriteFault::Recording(fault) => match walk_stop(alloc, texts, machine, logs, fault) {
+            Stop::Unfit(_) => changed(alloc, logs),
+            stop => stop,
+        },
         WriteFault::Output(cause) => Stop::Output(cause.words()),
         WriteFault::Changed => changed(alloc, logs),
         WriteFault::Memory => Stop::Memory,
@@ -190,33 +176,9 @@ fn check_counts<S: TextSource>(
     Ok(())
 }
 
-/// Checks that no record names a number that no recorder answers.
-fn check_numbers<S: TextSource>(
-    alloc: Global,
-    texts: &S,
-    machine: &WideMachine,
-    logs: &FoundLogs,
-    facts: &Facts,
-) -> Result<(), Stop> {
-    let Some((name, number)) = facts.beyond else {
-        return Ok(());
-    };
-    let paths = logs.log(Party::Of(name)).paths.as_slice();
-    Err(Stop::Unfit(record_words(alloc, texts, machine, name, paths, number)?))
-}
-
-/// Checks that a hole in a log was told, if one was met.
-fn check_holes(alloc: Global, logs: &FoundLogs, said: &[u8], has_all: bool) -> Result<(), Stop>
-    ensures { OnOk result (said.now ≡ [] → IsTrue has_all) }
-{
-    if said.is_empty() && !has_all {
-        return Err(changed(alloc, logs));
-    }
-    Ok(())
-}
-
 /// Checks that the logs were gone through as they were surveyed, given what was said of what they lack, and whether none has a
-/// hole.
+/// hole: that each was gone through to the first number that no record has, that no record names a number that no recorder
+/// answers, and that a hole was told, if one was met.
 pub(crate) fn check_facts<S: TextSource>(
     alloc: Global,
     machine: &WideMachine,
@@ -228,8 +190,15 @@ pub(crate) fn check_facts<S: TextSource>(
 ) -> Result<(), Stop>
     ensures { OnOk result (said.now ≡ [] → IsTrue has_all) }
 {
-    let counts = facts.naming.counts();
-    check_counts(alloc, files.texts, files.logs, counts, expected)?;
-    check_numbers(alloc, files.texts, machine, files.logs, facts)?;
-    check_holes(alloc, files.logs, said, has_all)
+    let (texts, logs) = (files.texts, files.logs);
+    check_counts(alloc, texts, logs, facts.naming.counts(), expected)?;
+    if let Some((name, number)) = facts.beyond {
+        let paths = logs.log(Party::Of(name)).paths.as_slice();
+        let words = record_words(alloc, texts, machine, name, paths, number)?;
+        return Err(Stop::Unfit(words));
+    }
+    if said.is_empty() && !has_all {
+        return Err(changed(alloc, logs));
+    }
+    Ok(())
 }

@@ -19,7 +19,7 @@ use crate::folders::tell_session_in;
 use crate::found::{FoundFiles, FoundLogs, find_files};
 use crate::gathering::{Unmade, say};
 use crate::gone::tell_name_gone;
-use crate::making::{Known, know_facts, refuse};
+use crate::making::{Known, know_facts, say_lacking};
 use crate::performing::leave_out;
 use crate::recording::FileRecording;
 use crate::stops::Stop;
@@ -114,6 +114,27 @@ fn cut_files<S: TextSource>(
     }
 }
 
+/// Returns the window of the recording that the files of logs make, unless its machine does not have these pages. Says what is
+/// lacking.
+#[tactic(auto, using(crate::proofs::Gained::same, crate::proofs::Gained::both))]
+fn cut_logs<S: TextSource, E: Write>(
+    alloc: Global,
+    window: Window,
+    texts: &S,
+    logs: &FoundLogs,
+    errors: &mut E,
+) -> Result<Windowed, Unmade>
+    ensures cut { IfOk result (IsCutFrom (IsMadeOf (S.bytes_of texts.now) logs.now) window) }
+    ensures gains { Gains (E.contents errors.old) (E.contents errors.new) }
+{
+    let known = know_facts(alloc, texts, logs)?;
+    if !say_lacking(known.said.as_slice(), Lacking::Refused, errors) {
+        drop(known);
+        return Err(Unmade::Said);
+    }
+    Ok(cut_files(alloc, window, texts, logs, known)?)
+}
+
 /// Returns the window of the recording that the files found in folders make, unless its machine does not have these pages.
 /// Says what is lacking.
 #[tactic(auto, using(crate::proofs::Gained::same, crate::proofs::Gained::both))]
@@ -135,12 +156,9 @@ fn cut_found<S: TextSource, E: Write>(
         return Err(Unmade::Said);
     }
     let logs = find_logs(alloc, texts, folders, found, &mut NoOnlooker)?;
-    let known = know_facts(alloc, texts, &logs)?;
-    if !known.said.is_empty() {
-        refuse(known.said, errors)?;
-        return Err(Unmade::Said);
-    }
-    Ok(cut_files(alloc, window, texts, &logs, known)?)
+    let cut = cut_logs(alloc, window, texts, &logs, errors);
+    drop(logs);
+    cut
 }
 
 /// Returns the window of the recording that the files in a folder make, unless its machine does not have these pages.
@@ -162,7 +180,9 @@ fn cut_folder<S: TextSource, E: Write>(
         Err(Stop::Memory) => return Err(Unmade::Stopped(Stop::Memory)),
         Err(_) => return Ok(None),
     };
-    let seen = cut_found(alloc, window, texts, &folders, &found, errors)?;
+    let seen = cut_found(alloc, window, texts, &folders, &found, errors);
+    drop(found);
+    let seen = seen?;
     tell_name_gone(texts, alloc, folder, errors)?;
     Ok(Some(seen))
 }
@@ -255,9 +275,12 @@ where
     ensures fault { IfErr result (IsReadFault (λ n. n ≡ name.entry.now)) }
 {
     let (found, why) = read_named::<SessionTaker, R, S, I>(rt, alloc, name, texts, input)?;
-    let out = cut_read(alloc, window, &found)?;
+    let out = cut_read(alloc, window, &found);
     mem::forget(found);
-    Ok((out, why))
+    match out {
+        Ok(out) => Ok((out, why)),
+        Err(fault) => Err(fault),
+    }
 }
 
 /// Returns the window of what is under a name, a folder of recorders' files or a session's text, or why there is none, and
@@ -348,7 +371,9 @@ where
     )?;
     let outside = is_outside(&found);
     let (answer, table) = given(answer_for(console.alloc, lined, found))?;
-    let status = written(&answer, &mut console.output)?;
+    let status = written(&answer, &mut console.output);
+    drop(answer);
+    let status = status?;
     tell_why(console.alloc, &why, Telling::Short, &mut console.errors);
     tell_outside(name, outside, &mut console.errors);
     put(lines, table);

@@ -1,9 +1,10 @@
 //! The words of messages.
 
-ghost use Rattle.std.specs.Prelude.{◌≢◌, [], OnOk};
-ghost use Rattle.session_commands.specs.Telling.{Extends};
+ghost use Rattle.std.specs.Prelude.{◌≡◌, ◌≢◌, [], OnOk};
+ghost use Rattle.session_commands.specs.Telling.{Extends, SaysUnless};
 
 use crate::stops::add;
+use crate::system_errors::push_system_error;
 use recorder_files::Party;
 use refusal_words::{Escape, escape_of, is_hidden};
 use std::alloc::{AllocError, Global};
@@ -14,9 +15,6 @@ const NAME: &[u8] = b"session: ";
 
 /// How many characters of a text are quoted.
 const QUOTED: usize = 60;
-
-/// How many of them are quoted of a longer text, in front of the dots.
-const SHORTENED: usize = 57;
 
 /// What stands in the place of a '{}' of a sentence.
 #[derive(Clone, Copy)]
@@ -33,10 +31,16 @@ pub(crate) enum Piece<'a> {
     Count(u64),
     /// A file's name, and the number of its line.
     At(&'a str, u64),
+    /// The same, in front of what stands there.
+    In(&'a str, u64),
     /// The word of a party.
     Party(Party),
+    /// The beginning of a line on the log of a party, of whose records so many are left out.
+    On(Party, u64),
     /// The name of a record, by its number.
     Record(Party, u64),
+    /// The words on a system error.
+    Error(u32),
 }
 
 /// Returns the word of a party.
@@ -52,65 +56,31 @@ pub(crate) fn push(out: &mut Vec<u8>, text: &str) -> Result<(), AllocError> {
     out.extend_from_slice(text.as_bytes())
 }
 
-/// Appends a number.
-pub(crate) fn push_count(out: &mut Vec<u8>, count: u64) -> Result<(), AllocError> {
-    push_number(out, count)
-}
-
-/// Returns the hexadecimal digit for a number below 16.
-fn hex_digit(number: u8) -> u8 {
-    match number {
-        0..=9 => b'0' + number,
-        10..=15 => b'a' - 10 + number,
-        _ => b'?',
-    }
-}
+/// The hexadecimal digits.
+const DIGITS: &[u8; 16] = b"0123456789abcdef";
 
 /// Appends a byte as an escape of two hexadecimal digits.
 #[tactic(auto, using(crate::proofs::Extended::ok_extends))]
 fn push_escape(out: &mut Vec<u8>, byte: u8) -> Result<(), AllocError>
     ensures { OnOk result (Extends out.old.items out.new.items) }
 {
-    out.extend_from_slice(&[b'\\', b'x', hex_digit(byte / 16), hex_digit(byte % 16)])
-}
-
-/// Returns the letter of the escape for a byte that is not printed, if it has one.
-fn escape_letter(byte: u8) -> Option<u8> {
-    match byte {
-        b'\n' => Some(b'n'),
-        b'\r' => Some(b'r'),
-        b'\t' => Some(b't'),
-        _ => None,
-    }
+    let (high, low) = (
+        DIGITS[usize::from(byte / 16)],
+        DIGITS[usize::from(byte % 16)],
+    );
+    out.extend_from_slice(&[b'\\', b'x', high, low])
 }
 
 /// Appends a byte, as an escape if it is not printed.
-#[tactic(auto, using(crate::proofs::Extended::ok_extends))]
 fn push_printed(out: &mut Vec<u8>, byte: u8) -> Result<(), AllocError>
     ensures { OnOk result (Extends out.old.items out.new.items) }
 {
-    match escape_letter(byte) {
-        Some(letter) => out.extend_from_slice(&[b'\\', letter]),
-        None => {
-            if byte < 32 || byte == 127 {
-                push_escape(out, byte)
-            } else {
-                add(out, byte)
-            }
-        }
-    }
-}
-
-/// Appends an escape.
-fn push_escape_of(out: &mut Vec<u8>, escape: Escape) -> Result<(), AllocError>
-    ensures { OnOk result (Extends out.old.items out.new.items) }
-{
-    match escape {
-        Escape::One(unit) => extend(out, &unit),
-        Escape::Two(first, second) => {
-            extend(out, &first)?;
-            extend(out, &second)
-        }
+    match byte {
+        b'\n' => extend(out, b"\\n"),
+        b'\r' => extend(out, b"\\r"),
+        b'\t' => extend(out, b"\\t"),
+        0..=31 | 127 => push_escape(out, byte),
+        _ => extend(out, &[byte]),
     }
 }
 
@@ -127,7 +97,13 @@ fn push_character(out: &mut Vec<u8>, character: char) -> Result<(), AllocError>
     ensures { OnOk result (Extends out.old.items out.new.items) }
 {
     if is_hidden(character) {
-        return push_escape_of(out, escape_of(character));
+        return match escape_of(character) {
+            Escape::One(unit) => extend(out, &unit),
+            Escape::Two(first, second) => {
+                extend(out, &first)?;
+                extend(out, &second)
+            }
+        };
     }
     let mut buffer = [0; 4];
     extend(out, character.encode_utf8(&mut buffer).as_bytes())
@@ -143,16 +119,24 @@ fn push_text(out: &mut Vec<u8>, text: &str) -> Result<(), AllocError>
     Ok(())
 }
 
+/// Appends a line of a message: a text of Unicode.
+fn push_line(out: &mut Vec<u8>, line: &str) -> Result<(), AllocError>
+    ensures some { OnOk result (out.new.items ≢ []) }
+    ensures front { OnOk result (Extends out.old.items out.new.items) }
+{
+    out.extend_from_slice(NAME)?;
+    push_text(out, line)?;
+    add(out, b'\n')?;
+    Ok(())
+}
+
 /// Appends a line of a message. Characters that are not shown as they are, as in a file's name, are escaped.
 pub(crate) fn push_message(out: &mut Vec<u8>, line: &[u8]) -> Result<(), AllocError>
     ensures some { OnOk result (out.new.items ≢ []) }
     ensures front { OnOk result (Extends out.old.items out.new.items) }
 {
     let line = String::from_utf8_lossy(*out.allocator(), line)?;
-    out.extend_from_slice(NAME)?;
-    push_text(out, line.as_str())?;
-    add(out, b'\n')?;
-    Ok(())
+    push_line(out, line.as_str())
 }
 
 /// Returns a text of ASCII for bytes: those that are no ASCII are escaped.
@@ -185,45 +169,60 @@ fn push_quotation(out: &mut Vec<u8>, text: &[u8]) -> Result<(), AllocError> {
     add(out, mark)
 }
 
-/// Appends bytes between quotation marks. A long text is shortened.
-fn push_quoted(out: &mut Vec<u8>, alloc: Global, bytes: &[u8]) -> Result<(), AllocError> {
+/// Appends bytes between quotation marks. A long text is shortened, with these dots at its end.
+fn push_quoted(
+    out: &mut Vec<u8>,
+    alloc: Global,
+    bytes: &[u8],
+    dots: &str,
+) -> Result<(), AllocError> {
     let mut text = ascii(alloc, bytes)?;
     if text.len() > QUOTED {
-        text.truncate(SHORTENED);
-        text.extend_from_slice(b"...")?;
+        text.truncate(QUOTED.saturating_sub(dots.len()));
+        push(&mut text, dots)?;
     }
-    push_quotation(out, text.as_slice())
-}
-
-/// Appends the first bytes of a word between quotation marks.
-fn push_word(out: &mut Vec<u8>, alloc: Global, bytes: &[u8]) -> Result<(), AllocError> {
-    let mut text = ascii(alloc, bytes)?;
-    text.truncate(QUOTED);
     push_quotation(out, text.as_slice())
 }
 
 /// Appends the first bytes of a record's line between apostrophes.
 fn push_spelled(out: &mut Vec<u8>, line: &[u8]) -> Result<(), AllocError> {
-    let shown = line.get(..QUOTED).unwrap_or(line);
-    out.push(b'\'')?;
-    out.extend_from_slice(shown)?;
-    add(out, b'\'')
+    push(out, "'")?;
+    out.extend_from_slice(line.get(..QUOTED).unwrap_or(line))?;
+    push(out, "'")
 }
 
-/// Appends a file's name, and the number of its line.
-fn push_at(out: &mut Vec<u8>, path: &str, line: u64) -> Result<(), AllocError> {
+/// Appends a number between two texts.
+fn push_between(
+    out: &mut Vec<u8>,
+    before: &str,
+    number: u64,
+    behind: &str,
+) -> Result<(), AllocError> {
+    push(out, before)?;
+    push_number(out, number)?;
+    push(out, behind)
+}
+
+/// Appends a file's name, the number of its line, and what stands behind it.
+fn push_at(out: &mut Vec<u8>, path: &str, line: u64, behind: &str) -> Result<(), AllocError> {
     push(out, path)?;
-    push(out, ":")?;
-    push_count(out, line)
+    push_between(out, ":", line, behind)
 }
 
 /// Appends the name of a record.
 fn push_record(out: &mut Vec<u8>, party: Party, number: u64) -> Result<(), AllocError> {
-    push(out, "record ")?;
-    push_count(out, number)?;
-    push(out, " of the ")?;
+    push_between(out, "record ", number, " of the ")?;
     push(out, party_word(party))?;
     push(out, "'s log")
+}
+
+/// Appends the beginning of a line on the log of a party, of whose records so many are left out.
+fn push_on(out: &mut Vec<u8>, party: Party, left_out: u64) -> Result<(), AllocError> {
+    push(out, party_word(party))?;
+    if left_out == 0 {
+        return push(out, ": ");
+    }
+    push_between(out, ": ", left_out, " records left out: ")
 }
 
 /// Appends a piece of a sentence.
@@ -231,13 +230,16 @@ fn push_piece(out: &mut Vec<u8>, alloc: Global, piece: Piece<'_>) -> Result<(), 
     match piece {
         Piece::Text(text) => push(out, text),
         Piece::Bytes(bytes) => out.extend_from_slice(bytes),
-        Piece::Quoted(bytes) => push_quoted(out, alloc, bytes),
-        Piece::Word(bytes) => push_word(out, alloc, bytes),
+        Piece::Quoted(bytes) => push_quoted(out, alloc, bytes, "..."),
+        Piece::Word(bytes) => push_quoted(out, alloc, bytes, ""),
         Piece::Spelled(line) => push_spelled(out, line),
-        Piece::Count(count) => push_count(out, count),
-        Piece::At(path, line) => push_at(out, path, line),
+        Piece::Count(count) => push_number(out, count),
+        Piece::At(path, line) => push_at(out, path, line, ""),
+        Piece::In(path, line) => push_at(out, path, line, ": "),
         Piece::Party(party) => push(out, party_word(party)),
+        Piece::On(party, left_out) => push_on(out, party, left_out),
         Piece::Record(party, number) => push_record(out, party, number),
+        Piece::Error(number) => push_system_error(out, number),
     }
 }
 
@@ -275,17 +277,46 @@ pub(crate) fn sentence(
     Ok(words)
 }
 
-/// Returns the beginning of a line on the log of a party, of whose records so many are left out.
-pub(crate) fn line_on(alloc: Global, party: Party, left_out: u64) -> Result<Vec<u8>, AllocError> {
-    let form = if left_out > 0 {
-        "{}: {} records left out: "
-    } else {
-        "{}: "
-    };
-    sentence(alloc, form, &[Piece::Party(party), Piece::Count(left_out)])
+/// Adds a line of a message: a sentence.
+pub(crate) fn tell_sentence(
+    said: &mut Vec<u8>,
+    alloc: Global,
+    form: &str,
+    pieces: &[Piece<'_>],
+) -> Result<(), AllocError>
+    ensures { OnOk result (said.new.items ≢ []) }
+{
+    let line = sentence(alloc, form, pieces)?;
+    push_message(said, line.as_slice())
+}
+
+/// Adds a line of a message on each of these files. In its form the name of the file comes behind this piece.
+pub(crate) fn tell_each(
+    said: &mut Vec<u8>,
+    alloc: Global,
+    form: &str,
+    front: Piece<'_>,
+    paths: &[String],
+) -> Result<(), AllocError>
+    ensures { OnOk result (SaysUnless said.old.items said.new.items (paths.now ≡ [])) }
+{
+    for place in 0..paths.len() {
+        tell_sentence(
+            said,
+            alloc,
+            form,
+            &[front, Piece::Text(paths[place].as_str())],
+        )?;
+    }
+    Ok(())
+}
+
+/// Returns the part of a text that has this place among those between marks, counted from 0.
+pub(crate) fn part_at(text: &[u8], mark: u8, place: usize) -> &[u8] {
+    text.split(|byte| *byte == mark).nth(place).unwrap_or(&[])
 }
 
 /// Returns a word of a line, whose place this is.
 pub(crate) fn word_at(line: &[u8], place: usize) -> &[u8] {
-    line.split(|byte| *byte == b' ').nth(place).unwrap_or(&[])
+    part_at(line, b' ', place)
 }

@@ -2,7 +2,7 @@
 
 use crate::lines::no_record_words;
 use crate::machine_words::{push_no_page, push_other_cells};
-use crate::places::{FoundRecord, find_record, push_placed};
+use crate::places::{FoundRecord, find_record, place_of};
 use crate::stops::Stop;
 use crate::words::{Piece, push, push_sentence, sentence, word_at};
 use migration_types::{LogName, MOST_CELLS};
@@ -127,9 +127,12 @@ fn number_of(text: &[u8]) -> Option<u64> {
 
 /// Returns whether a text is contents: 16 digits for each cell.
 fn are_contents(text: &[u8]) -> bool {
-    !text.is_empty()
-        && text.len() % 16 == 0
-        && text.iter().all(|byte| byte.is_ascii_digit() || (b'a' <= *byte && *byte <= b'f'))
+    for byte in text {
+        if !byte.is_ascii_digit() && (*byte < b'a' || b'f' < *byte) {
+            return false;
+        }
+    }
+    !text.is_empty() && text.len() % 16 == 0
 }
 
 /// Returns whether a text is one of a field.
@@ -141,29 +144,6 @@ fn is_of(field: RawField, text: &[u8]) -> bool {
             None => false,
         },
     }
-}
-
-/// Appends that a text is none of a field.
-fn push_no_field(
-    out: &mut Vec<u8>,
-    alloc: Global,
-    field: RawField,
-    text: &[u8],
-) -> Result<(), AllocError> {
-    let form = match field {
-        RawField::Contents => "{} is no {}: 16 digits of 0 to 9 and a to f for each cell",
-        _ => "{} is no {}: a number from 0 to {}",
-    };
-    push_sentence(
-        out,
-        alloc,
-        form,
-        &[
-            Piece::Word(text),
-            Piece::Text(field.name()),
-            Piece::Count(field.most()),
-        ],
-    )
 }
 
 /// Returns whether the text of a field fits the machine.
@@ -209,7 +189,13 @@ fn push_wrong_fields(
     for i in 0..fields.len() {
         let word = word_at(text, i + 1);
         if !is_of(fields[i], word) {
-            return push_no_field(out, alloc, fields[i], word);
+            let form = match fields[i] {
+                RawField::Contents => "{} is no {}: 16 digits of 0 to 9 and a to f for each cell",
+                _ => "{} is no {}: a number from 0 to {}",
+            };
+            let name = Piece::Text(fields[i].name());
+            let most = Piece::Count(fields[i].most());
+            return push_sentence(out, alloc, form, &[Piece::Word(word), name, most]);
         }
     }
     for i in 0..fields.len() {
@@ -272,16 +258,21 @@ fn empty_words(alloc: Global, path: &str, line: u64, number: u64) -> Result<Vec<
 }
 
 /// Returns the words on a record of a log that is none of its records, given where it stands.
-fn placed_words(
+fn placed_words<'a>(
     alloc: Global,
     machine: &WideMachine,
     log: LogName,
-    paths: &[String],
+    paths: &'a [String],
     number: u64,
-    placed: &Option<FoundRecord>,
+    placed: &'a Option<FoundRecord>,
 ) -> Result<Vec<u8>, AllocError> {
-    let mut words = Vec::new(alloc);
-    push_placed(&mut words, alloc, Party::Of(log), paths, number, placed)?;
+    if let Some(placed) = placed {
+        if placed.text.is_empty() && placed.file < paths.len() {
+            return empty_words(alloc, paths[placed.file].as_str(), placed.line, number);
+        }
+    }
+    let record = Piece::Record(Party::Of(log), number);
+    let mut words = sentence(alloc, "{}{}", &[place_of(paths, placed), record])?;
     if let Some(placed) = placed {
         let text = placed.text.as_slice();
         push_sentence(&mut words, alloc, ", {}: ", &[Piece::Quoted(text)])?;
@@ -299,12 +290,9 @@ pub(crate) fn record_words<S: TextSource>(
     paths: &[String],
     number: u64,
 ) -> Result<Vec<u8>, Stop> {
-    let placed = find_record(alloc, texts, Party::Of(log), paths, number)?;
-    if let Some(placed) = &placed {
-        if placed.text.is_empty() && placed.file < paths.len() {
-            let path = paths[placed.file].as_str();
-            return Ok(empty_words(alloc, path, placed.line, number)?);
-        }
+    let placed = find_record(alloc, texts, Party::Of(log), paths, number, 0)?;
+    match placed_words(alloc, machine, log, paths, number, &placed) {
+        Ok(words) => Ok(words),
+        Err(_) => Err(Stop::Memory),
     }
-    Ok(placed_words(alloc, machine, log, paths, number, &placed)?)
 }

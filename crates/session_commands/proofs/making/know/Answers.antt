@@ -1,6 +1,5 @@
 use Rattle.std.proofs.Common.{arith, refl, rules}
 use Rattle.migration_types.specs.declared.size.Size.TheVariants.{Large}
-use Rattle.session_commands.proofs.Unsaid.{each_party}
 use Rattle.session_commands.proofs.making.know.Goals as goal
 
 pub see-requires-clause-machine : goal.see-requires-clause-machine
@@ -19,10 +18,8 @@ returns g c =
         };
         whole = λ none.
             let seen = h.whole none in
-            let others = c.in_ok-expected.ensures seen.0 in
-            let lane = c.in_ok-tell_lane.ensures others.0 in
-            let machine = c.in_ok-tell_machine.ensures lane.0 in
-            record { has_all = each_party c.args.logs.now machine.1.0 others.1; no_hole = machine.1.1; lane = lane.1; leaves = seen.1 };
+            let files = (c.in_ok-expected.ensures seen.0).1 in
+            record { has_all = files.0; no_hole = files.1; lane = files.2; leaves = seen.1 };
       },
       h.met,
     )

@@ -10,4 +10,4 @@ returns g c = λ none.
     let link = c.in_ok-link.ensures lane.0 in
     let source = c.in_ok-source.ensures link.0 in
     let guest = c.in_ok-guest.ensures source.0 in
-    (guest.0, each_log (λ (log : LogName). HasAll (log_in c.args.logs.now log)) guest.1.0 source.1.0 link.1.0 lane.1.0 pager.1.0)
+    (guest.0, each_log (λ (log : LogName). HasAll (log_in c.args.files.now.logs.now log)) guest.1.0 source.1.0 link.1.0 lane.1.0 pager.1.0)

@@ -6,9 +6,8 @@ use Rattle.recorder_files.specs.declared.lines.Party.TheVariants.{Of}
 use Rattle.session_commands.specs.Logs.{log_in}
 use Rattle.session_commands.specs.declared.found.FoundLog.{FoundLog}
 use Rattle.session_commands.specs.Files.{bytes_in}
-use Rattle.session_commands.proofs.OpenedFile.{came_known}
 use Rattle.session_commands.proofs.Firsts.{AreFirst, next_first}
-use Rattle.session_commands.proofs.Opened.{all_opened, fault_at, unread_at}
+use Rattle.session_commands.proofs.Opened.{all_opened, fault_at}
 use Rattle.session_commands.proofs.files.OpenedLogsLogFiles.open.Goals as goal
 
 pub loop-place-preserved : goal.loop-place-preserved
@@ -17,8 +16,8 @@ loop-place-preserved g c =
     let items = (log_in c.args.self.now.logs.now c.args.log).paths.items in
     let same : c.as_slice-paths.result.now ≡ items = c.as_slice-paths.ensures.value ∙ ap (λ (log : FoundLog). log.paths.items) c.log.ensures in
     let R = λ (known : Option (List ℕ)) (s : Standing). CameTo (Of c.args.log) known s [] in
-    subst (λ (files : List Standing). AreFirst R (bytes_in bytes c.args.self.now.logs.now c.args.log) (c.loop-place.place + 1) files) (sym c.in-Ok-push.ensures.items)
-    (next_first R bytes (λ path. string_bytes path) items c.as_slice-paths.result.now c.loop-place.place c.index-paths-place.result c.as_str.result.now c.loop-place.files.items c.in_ok-file.file same c.loop-place-test.true c.index-paths-place.is c.as_str.ensures.value c.loop-place.invariant (came_known (Of c.args.log) (bytes c.as_str.result.now) _ c.in_ok-file.file c.in-Ok.ensures.bytes c.in_ok-file.ensures.opened))
+    subst (λ (files : List Standing). AreFirst R (bytes_in bytes c.args.self.now.logs.now c.args.log) (c.loop-place.place + 1) files) (sym c.in-Ok.ensures.items)
+    (next_first R bytes (λ path. string_bytes path) items c.as_slice-paths.result.now c.loop-place.place c.index-paths-place.result c.as_str-path.result.now c.loop-place.files.items c.in_ok-file.file same c.loop-place-test.true c.index-paths-place.is c.as_str-path.ensures.value c.loop-place.invariant c.in_ok-file.ensures.opened)
 
 pub returns-clause-opened : goal.returns-clause-opened
 returns-clause-opened g c =
@@ -26,17 +25,10 @@ returns-clause-opened g c =
     let same : c.as_slice-paths.result.now ≡ items = c.as_slice-paths.ensures.value ∙ ap (λ (log : FoundLog). log.paths.items) c.log.ensures in
     all_opened _ _ c.loop-place.place c.loop-place.files.items (omega (arith, length-map items (λ path. g.S.TextSource.bytes_of c.args.self.now.texts.now (string_bytes path)), ap length same, c.loop-place.auto.place-end, c.loop-place-test.false)) c.loop-place.invariant
 
-pub returns-in_default-clause-refused : goal.returns-in_default-clause-refused
-returns-in_default-clause-refused g c =
-    let bytes = g.S.TextSource.bytes_of c.args.self.now.texts.now in
-    let items = (log_in c.args.self.now.logs.now c.args.log).paths.items in
-    let same : c.as_slice-paths.result.now ≡ items = c.as_slice-paths.ensures.value ∙ ap (λ (log : FoundLog). log.paths.items) c.log.ensures in
-    unread_at (Of c.args.log) bytes (λ path. string_bytes path) items c.as_slice-paths.result.now c.loop-place.place c.index-paths-place.result c.as_str.result.now same c.loop-place-test.true c.index-paths-place.is c.as_str.ensures.value
-
 pub returns-in_err-file-clause-refused : goal.returns-in_err-file-clause-refused
 returns-in_err-file-clause-refused g c =
     let bytes = g.S.TextSource.bytes_of c.args.self.now.texts.now in
     let items = (log_in c.args.self.now.logs.now c.args.log).paths.items in
     let same : c.as_slice-paths.result.now ≡ items = c.as_slice-paths.ensures.value ∙ ap (λ (log : FoundLog). log.paths.items) c.log.ensures in
     let p = err_from_is_err_and c.from_residual.result c.from_residual.ensures.1 in
-    rw (p.1, p.2) (fault_at (Of c.args.log) bytes (λ path. string_bytes path) items c.as_slice-paths.result.now c.loop-place.place c.index-paths-place.result c.as_str.result.now _ _ same c.loop-place-test.true c.index-paths-place.is c.as_str.ensures.value c.in-Ok.ensures.bytes c.in_err-file.ensures.refused)
+    rw (p.1, p.2) (fault_at (Of c.args.log) bytes (λ path. string_bytes path) items c.as_slice-paths.result.now c.loop-place.place c.index-paths-place.result c.as_str-path.result.now _ same c.loop-place-test.true c.index-paths-place.is c.as_str-path.ensures.value c.in_err-file.ensures.refused)

@@ -1,7 +1,7 @@
 use Rattle.std.proofs.Common.{◌∙◌, sym}
 use Rattle.session_commands.proofs.Extended.{extends_more}
 use Rattle.session_commands.proofs.Pushed.{not_empty}
-use Rattle.session_commands.proofs.words.push_message.Goals as goal
+use Rattle.session_commands.proofs.words.push_line.Goals as goal
 
 pub returns-clause-some : goal.returns-clause-some
 returns-clause-some c = λ none. not_empty _ _ (sym c.in_ok-add.ensures ∙ none)
