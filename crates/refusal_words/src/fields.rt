@@ -75,14 +75,9 @@ pub(crate) fn field_of(slot: &str) -> Option<FieldKind> {
     }
 }
 
-/// Returns whether a word of a form is a field.
-fn is_field(slot: &str) -> bool {
-    field_of(slot).is_some()
-}
-
 /// Returns whether a form has a field.
 pub(crate) fn has_field(form: &str) -> bool {
-    form.split(' ').any(|slot| is_field(slot))
+    form.split(' ').any(|slot| field_of(slot).is_some())
 }
 
 /// Returns the range from 0 to one less than `count`, or than `most` if the count is not known.
@@ -130,10 +125,6 @@ fn is_digit_of_contents(byte: u8) -> bool {
     byte.is_ascii_digit() || (b'a'..=b'f').contains(&byte)
 }
 
-fn is_letter_of_fates(byte: u8) -> bool {
-    matches!(byte, b'd' | b'l' | b'r' | b'b')
-}
-
 /// Returns the first byte that does not fit, or `None` if all do.
 fn stop_at(found: Option<usize>) -> Option<Misfit> {
     match found {
@@ -164,32 +155,25 @@ fn misfit_of_fates(word: &[u8]) -> Option<Misfit> {
     if word.is_empty() || word.len() > MOST_FATES {
         return Some(Misfit::Whole);
     }
-    stop_at(word.iter().position(|byte| !is_letter_of_fates(*byte)))
-}
-
-fn misfit_of_fate(word: &[u8]) -> Option<Misfit> {
-    if FATES.iter().any(|fate| word == *fate) {
-        return None;
-    }
-    Some(Misfit::Whole)
-}
-
-fn misfit_of_number(word: &[u8], range: Bounds) -> Option<Misfit> {
-    match read_decimal(word) {
-        Some(number) if range.least <= number && number <= range.most => None,
-        _ => Some(Misfit::Whole),
-    }
+    stop_at(
+        word.iter()
+            .position(|byte| !matches!(*byte, b'd' | b'l' | b'r' | b'b')),
+    )
 }
 
 /// Returns where a word stops being allowed in a field, or `None` if it is allowed.
 pub(crate) fn misfit_of(field: FieldKind, word: &[u8], wanted: &Wanted) -> Option<Misfit> {
     if let Some(range) = range_of(field, wanted) {
-        return misfit_of_number(word, range);
+        return match read_decimal(word) {
+            Some(number) if range.least <= number && number <= range.most => None,
+            _ => Some(Misfit::Whole),
+        };
     }
     match field {
         FieldKind::Contents => misfit_of_contents(word, wanted),
         FieldKind::Fates => misfit_of_fates(word),
-        _ => misfit_of_fate(word),
+        _ if FATES.iter().any(|fate| word == *fate) => None,
+        _ => Some(Misfit::Whole),
     }
 }
 

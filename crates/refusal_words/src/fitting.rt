@@ -81,26 +81,9 @@ pub(crate) fn first_word(text: &[u8]) -> (&[u8], Option<&[u8]>) {
     }
 }
 
-/// Returns where a word stops being allowed at `slot` of a form, or `None` if it is allowed.
-fn misfit_at(slot: &str, word: &[u8], wanted: &Wanted) -> Option<Misfit> {
-    match field_of(slot) {
-        Some(field) => misfit_of(field, word, wanted),
-        None if word == slot.as_bytes() => None,
-        None => Some(Misfit::Whole),
-    }
-}
-
 /// Returns how many bytes of a line come before its last part.
 fn before(line: &[u8], part: &[u8]) -> usize {
     line.len().saturating_sub(part.len())
-}
-
-/// Returns the distance of a misfit from the word's first byte.
-fn depth(misfit: Misfit) -> usize {
-    match misfit {
-        Misfit::Byte(at) => at,
-        Misfit::Whole => 0,
-    }
 }
 
 /// Returns whether a word may be the beginning of one that is allowed at `slot` of a form.
@@ -122,11 +105,19 @@ fn stop_at<'a>(
     if word.is_empty() && is_end {
         return Some((0, Departure::Missing(slot)));
     }
-    let misfit = misfit_at(slot, word, &refused.misread.wanted)?;
+    let misfit = match field_of(slot) {
+        Some(field) => misfit_of(field, word, &refused.misread.wanted)?,
+        None if word == slot.as_bytes() => return None,
+        None => Misfit::Whole,
+    };
     if refused.misread.is_last && is_end && is_front(slot, word, &refused.misread.wanted) {
         return Some((word.len(), Departure::Cut(slot)));
     }
-    Some((depth(misfit), Departure::Word { slot, word, misfit }))
+    let depth = match misfit {
+        Misfit::Byte(at) => at,
+        Misfit::Whole => 0,
+    };
+    Some((depth, Departure::Word { slot, word, misfit }))
 }
 
 /// Returns how a refused line fits a form.

@@ -41,25 +41,15 @@ fn fitting(bytes: &[u8], room: usize) -> usize {
     count
 }
 
-fn push_spaces(out: &mut String, count: usize) -> Result<(), AllocError> {
-    for _ in 0..count {
-        out.push(' ')?;
-    }
-    Ok(())
-}
-
-/// Returns where the shown part of a line begins.
-fn begin_of(line: &[u8], at: usize) -> usize {
-    if columns(line) <= ROOM {
-        return 0;
-    }
-    at.saturating_sub(BEFORE)
-}
-
 /// Appends a line, cut if it is long, and a mark under the place after its first `at` bytes.
 fn push_line_marked(out: &mut String, line: &[u8], at: usize) -> Result<(), AllocError> {
     let (before, behind) = line.split_at(at.min(line.len()));
-    let (left_out, front) = before.split_at(begin_of(line, before.len()).min(before.len()));
+    let begin = if columns(line) <= ROOM {
+        0
+    } else {
+        before.len().saturating_sub(BEFORE)
+    };
+    let (left_out, front) = before.split_at(begin.min(before.len()));
     let lead = if left_out.is_empty() { "" } else { CUT };
     let taken = lead.len().saturating_add(columns(front));
     let room = ROOM.saturating_sub(taken);
@@ -71,7 +61,9 @@ fn push_line_marked(out: &mut String, line: &[u8], at: usize) -> Result<(), Allo
         out.push_str(CUT)?;
     }
     write!(out, "\n{INDENT}")?;
-    push_spaces(out, taken.saturating_add(at.saturating_sub(line.len())))?;
+    for _ in 0..taken.saturating_add(at.saturating_sub(line.len())) {
+        out.push(' ')?;
+    }
     out.push_str("^\n")
 }
 

@@ -32,7 +32,7 @@ fn slip_of_number(word: &[u8]) -> Option<Slip> {
         return Some(Slip::Hexadecimal);
     }
     let (first, digits) = word.split_first()?;
-    if !is_digits(digits) {
+    if digits.is_empty() || !digits.iter().all(|byte| byte.is_ascii_digit()) {
         return None;
     }
     match first {
@@ -40,11 +40,6 @@ fn slip_of_number(word: &[u8]) -> Option<Slip> {
         b'0' => Some(Slip::LeadingZero),
         _ => None,
     }
-}
-
-/// Returns whether the bytes are digits, at least one.
-fn is_digits(bytes: &[u8]) -> bool {
-    !bytes.is_empty() && bytes.iter().all(|byte| byte.is_ascii_digit())
 }
 
 fn slip_of_contents(word: &[u8]) -> Option<Slip> {

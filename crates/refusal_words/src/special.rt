@@ -79,12 +79,6 @@ impl Kind {
         }
         None
     }
-
-    /// Returns the kind of text whose first line is wanted.
-    fn wanted(wanted: &Wanted) -> Option<Kind> {
-        let form = wanted.forms.first()?;
-        Kind::of(form.as_bytes())
-    }
 }
 
 /// The first bytes of compressed files, and their kinds with the article.
@@ -96,16 +90,6 @@ const PACKED: [(&[u8], &str); 5] = [
     (b"PK", "a zip"),
 ];
 
-/// Returns the kind of a compressed file that begins with this line, with its article.
-fn packed(line: &[u8]) -> Option<&'static str> {
-    for packed in &PACKED {
-        if line.starts_with(packed.0) {
-            return Some(packed.1);
-        }
-    }
-    None
-}
-
 /// Returns the kind of an encoding or of a compressed file that begins with this line.
 fn encoded(line: &[u8]) -> Option<Special> {
     if line.starts_with(b"\xef\xbb\xbf") {
@@ -114,8 +98,12 @@ fn encoded(line: &[u8]) -> Option<Special> {
     if line.starts_with(b"\xff\xfe") || line.starts_with(b"\xfe\xff") {
         return Some(Special::Utf16);
     }
-    let kind = packed(line)?;
-    Some(Special::Packed(kind))
+    for packed in &PACKED {
+        if line.starts_with(packed.0) {
+            return Some(Special::Packed(packed.1));
+        }
+    }
+    None
 }
 
 /// The whole first line of the report on a clean session.
@@ -182,7 +170,7 @@ fn of_another_kind(refused: &Refused) -> Option<Special> {
     if begins_as_wanted(line, &refused.misread.wanted) {
         return None;
     }
-    let wanted = Kind::wanted(&refused.misread.wanted)?;
+    let wanted = Kind::of(refused.misread.wanted.forms.first()?.as_bytes())?;
     match Kind::of(line) {
         None => output(line, wanted),
         Some(found) if found != wanted => Some(Special::Another {
@@ -191,13 +179,6 @@ fn of_another_kind(refused: &Refused) -> Option<Special> {
             is_one_of_two: refused.is_one_of_two,
         }),
         Some(_) => None,
-    }
-}
-
-fn carriage_return(line: &[u8]) -> Option<Special> {
-    match line.last() {
-        Some(b'\r') => Some(Special::CarriageReturn),
-        _ => None,
     }
 }
 
@@ -212,5 +193,8 @@ pub(crate) fn special_of(refused: &Refused) -> Option<Special> {
             return Some(special);
         }
     }
-    carriage_return(line)
+    match line.last() {
+        Some(b'\r') => Some(Special::CarriageReturn),
+        _ => None,
+    }
 }

@@ -81,16 +81,6 @@ fn push_wanted(out: &mut String, wanted: &Wanted) -> Result<(), AllocError> {
     push_promise(out, wanted)
 }
 
-/// Appends what is wanted of a line that has its form.
-fn push_rule(out: &mut String, wanted: &Wanted) -> Result<(), AllocError> {
-    out.push_str(wanted.what)?;
-    push_promise(out, wanted)?;
-    if !wanted.rule.is_empty() {
-        out.push_str(": ")?;
-    }
-    out.push_str(wanted.rule)
-}
-
 /// Appends what is unusual about what was found.
 fn push_slip(out: &mut String, slip: Option<Slip>, wanted: &Wanted) -> Result<(), AllocError> {
     let Some(slip) = slip else {
@@ -143,21 +133,17 @@ fn best_forms(alloc: Global, refused: &Refused, best: &Fit<'_>) -> Result<BestFo
     Ok(found)
 }
 
-/// Appends the meaning of a word of a form.
-fn push_slot(out: &mut String, slot: &str, wanted: &Wanted) -> Result<(), AllocError> {
-    match field_of(slot) {
-        None => push_quote(out, slot.as_bytes()),
-        Some(field) => {
-            write!(out, "{slot}, ")?;
-            push_meaning(out, field, wanted)
-        }
-    }
-}
-
+/// Appends the meanings of words of forms, as a choice.
 fn push_slots(out: &mut String, slots: &[&'static str], wanted: &Wanted) -> Result<(), AllocError> {
     for (at, slot) in slots.iter().enumerate() {
         push_between(out, at, slots.len())?;
-        push_slot(out, slot, wanted)?;
+        match field_of(slot) {
+            None => push_quote(out, slot.as_bytes())?,
+            Some(field) => {
+                write!(out, "{slot}, ")?;
+                push_meaning(out, field, wanted)?;
+            }
+        }
     }
     Ok(())
 }
@@ -257,7 +243,14 @@ pub(crate) fn push_expected(
             out.push_str("a line feed after ")?;
             push_quote(out, line)
         }
-        LineFault::Rule => push_rule(out, wanted),
+        LineFault::Rule => {
+            out.push_str(wanted.what)?;
+            push_promise(out, wanted)?;
+            if !wanted.rule.is_empty() {
+                out.push_str(": ")?;
+            }
+            out.push_str(wanted.rule)
+        }
         LineFault::Stops(fit) => push_stop(out, refused, fit),
         LineFault::Memory
         | LineFault::Special(_)

@@ -56,17 +56,12 @@ pub(crate) fn found_in<'a>(refused: &'a Refused, fault: &LineFault<'a>) -> Optio
     }
 }
 
-/// Returns whether a form is a key and one more word, which can be understood without the rest of the line.
-fn is_keyed(form: &str) -> bool {
-    form.split(' ').count() <= 2
-}
-
 fn push_in_line(out: &mut String, line: &[u8]) -> Result<(), AllocError> {
     out.push_str(" in ")?;
     push_quote(out, line)
 }
 
-/// Appends the line in which something was found, unless it can be understood without the rest.
+/// Appends the line in which something was found, unless it can be understood without the rest, as a word behind a key.
 fn push_context(out: &mut String, line: &[u8], fault: &LineFault<'_>) -> Result<(), AllocError> {
     let LineFault::Stops(fit) = fault else {
         return Ok(());
@@ -76,7 +71,7 @@ fn push_context(out: &mut String, line: &[u8], fault: &LineFault<'_>) -> Result<
         Departure::Word {
             misfit: Misfit::Whole,
             ..
-        } if is_keyed(fit.form) => Ok(()),
+        } if fit.form.split(' ').count() <= 2 => Ok(()),
         Departure::Word { .. } => push_in_line(out, line),
         Departure::Surplus => {
             let (before, _) = line.split_at(fit.at.min(line.len()));
