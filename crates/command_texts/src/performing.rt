@@ -2,7 +2,7 @@
 //! command, and the system takes back all its memory at once. So what was found in the texts is forgotten, and not
 //! freed piece by piece.
 
-ghost use Rattle.std.specs.Prelude.{◌≡◌, ⊤, ◌<◌, ◌⊎◌, ℕ, Bool, false, List, [], None, IfOk, IfErr, IfSome, OnOk};
+ghost use Rattle.std.specs.Prelude.{◌≡◌, ⊤, ◌<◌, ◌⊎◌, ℕ, Bool, false, List, [], Option, None, IfOk, IfErr, IfSome, OnOk, is_some};
 ghost use Rattle.command_texts.specs.Answers.{IsListStop, IsTextFault};
 ghost use Rattle.command_texts.specs.Fields.{IsAnswerTold};
 ghost use Rattle.command_texts.specs.Reasons.{IsFirstRefused, IsWhy, TellsBeside, TellsWhyOf};
@@ -149,6 +149,25 @@ pub trait OnTwo {
         ensures well { (texts : List ℕ × List ℕ) → Self.First.is_found texts.0 first.now → Self.Second.is_found texts.1 second.now → answer.now.status ≡ 0 → IfOk result (λ note. note ≡ None → (words : List ℕ) → has_note self.now texts 0 words → ⊥) };
 }
 
+// Returns a command's answer to what was found in a text, as it is written, and the note on the text.
+pub(crate) fn noted_answer<C: OnOne>(
+    alloc: Global,
+    command: &C,
+    found: &<C::Text as Taker>::Found,
+    why: &Option<Why<'_>>,
+) -> Result<(Answer, Option<Vec<u8>>), Fault<'static>>
+    requires ready { C.ready }
+    ensures few { (text : List ℕ) → C.Text.is_found text found.now → IfOk result (λ made. made.0.status < 2) }
+    ensures told { (text : List ℕ) (line : Option ℕ) → C.Text.is_found text found.now → C.Text.is_refused text line → is_some why.now ≡ is_some line → IfOk result (λ made. IsAnswerTold (C.how_much command.now) C.Text.is_refused (C.is_answer command.now) text made.0.text.items made.0.status) }
+    ensures noted { (text : List ℕ) → C.Text.is_found text found.now → IfOk result (λ made. IfSome made.1 (λ words. C.has_note command.now text made.0.status words.items)) }
+    ensures fault { IfErr result (λ fault. fault ≡ Fault.Memory) }
+{
+    let found_answer = command.answer(alloc, found)?;
+    let answer = as_told(alloc, found_answer, command.telling(), why)?;
+    let noted = given(command.note(alloc, found, &answer))?;
+    Ok((answer, noted))
+}
+
 // Answers what was read under a name, with words beside the answer.
 fn answer_one<C: OnOne, O: Write, E: Write>(
     alloc: Global,
@@ -163,12 +182,9 @@ fn answer_one<C: OnOne, O: Write, E: Write>(
     ensures told { (text : List ℕ) → C.Text.is_found text read.now.0 → IsWhy C.Text.is_refused name.now text read.now.1 → Ends IsListStop (λ t. t ≡ text) (IsAnswerTold (C.how_much command.now) C.Text.is_refused (C.is_answer command.now)) (TellsWhyOf C.Text.is_refused (C.has_note command.now) (C.how_much command.now) name.now) (O.contents output.old, E.contents errors.old) (O.contents output.new, E.contents errors.new) result }
     ensures gains { BothGain (O.contents output.old, E.contents errors.old) (O.contents output.new, E.contents errors.new) }
 {
-    let found_answer = command.answer(alloc, &read.0)?;
-    let telling = command.telling();
-    let answer = as_told(alloc, found_answer, telling, &read.1)?;
-    let noted = given(command.note(alloc, &read.0, &answer))?;
+    let (answer, noted) = noted_answer(alloc, command, &read.0, &read.1)?;
     let status = written(&answer, output)?;
-    tell_why(alloc, &read.1, telling, errors);
+    tell_why(alloc, &read.1, command.telling(), errors);
     tell_note(name, &noted, errors);
     mem::forget(answer);
     Ok(status)
@@ -250,6 +266,27 @@ fn tell_more<C: OnTwo, E: Write>(
     }
 }
 
+// Returns a command's answer to what was found in two texts, as it is written, with what it says, and the note on them.
+fn noted_pair<C: OnTwo>(
+    alloc: Global,
+    command: &C,
+    first: &<C::First as Taker>::Found,
+    second: &<C::Second as Taker>::Found,
+    why: &Option<Why<'_>>,
+) -> Result<(Answer, C::Said, Option<Vec<u8>>), Fault<'static>>
+    requires ready { C.ready }
+    ensures few { (texts : List ℕ × List ℕ) → C.First.is_found texts.0 first.now → C.Second.is_found texts.1 second.now → IfOk result (λ made. made.0.status < 2) }
+    ensures told { (texts : List ℕ × List ℕ) (line : Option ℕ) → C.First.is_found texts.0 first.now → C.Second.is_found texts.1 second.now → IsFirstRefused C.First.is_refused C.Second.is_refused texts line → is_some why.now ≡ is_some line → IfOk result (λ made. IsAnswerTold (C.how_much command.now) (IsFirstRefused C.First.is_refused C.Second.is_refused) (C.is_answer command.now) texts made.0.text.items made.0.status) }
+    ensures said { (texts : List ℕ × List ℕ) → C.First.is_found texts.0 first.now → C.Second.is_found texts.1 second.now → IfOk result (λ made. C.is_said command.now texts made.1) }
+    ensures noted { (texts : List ℕ × List ℕ) → C.First.is_found texts.0 first.now → C.Second.is_found texts.1 second.now → IfOk result (λ made. IfSome made.2 (λ words. C.has_note command.now texts made.0.status words.items)) }
+    ensures fault { IfErr result (λ fault. fault ≡ Fault.Memory) }
+{
+    let (found_answer, said) = command.answer(alloc, first, second)?;
+    let answer = as_told(alloc, found_answer, command.telling(), why)?;
+    let noted = given(command.note(alloc, first, second, &answer))?;
+    Ok((answer, said, noted))
+}
+
 // Answers what was read under two names, with words beside the answer.
 fn answer_two<C: OnTwo, O: Write, E: Write>(
     alloc: Global,
@@ -268,11 +305,8 @@ fn answer_two<C: OnTwo, O: Write, E: Write>(
     ensures told { (texts : List ℕ × List ℕ) → C.First.is_found texts.0 read.now.0.0 → C.Second.is_found texts.1 read.now.0.1 → IsWhy C.First.is_refused first.now texts.0 read.now.1.first → IsWhy C.Second.is_refused second.now texts.1 read.now.1.second → Ends IsListStop (λ t. t ≡ texts) (IsAnswerTold (C.how_much command.now) (IsFirstRefused C.First.is_refused C.Second.is_refused) (C.is_answer command.now)) (TellsBeside C.First.is_refused C.Second.is_refused (C.adds_more command.now) (C.has_note command.now) first.now second.now) (O.contents output.old, E.contents errors.old) (O.contents output.new, E.contents errors.new) result }
     ensures gains { (texts : List ℕ × List ℕ) → C.First.is_found texts.0 read.now.0.0 → C.Second.is_found texts.1 read.now.0.1 → BothGain (O.contents output.old, E.contents errors.old) (O.contents output.new, E.contents errors.new) }
 {
-    let (found_answer, said) = command.answer(alloc, &read.0.0, &read.0.1)?;
-    let telling = command.telling();
     let about = read.1.told(command.is_about_second());
-    let answer = as_told(alloc, found_answer, telling, about)?;
-    let noted = given(command.note(alloc, &read.0.0, &read.0.1, &answer))?;
+    let (answer, said, noted) = noted_pair(alloc, command, &read.0.0, &read.0.1, about)?;
     let status = written(&answer, output)?;
     tell_why(alloc, read.1.earliest(), Telling::Short, errors);
     tell_more(alloc, command, second, &read.0.0, &read.0.1, said, errors);

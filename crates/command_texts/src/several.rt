@@ -2,7 +2,7 @@
 
 ghost use Rattle.std.specs.Prelude.{◌≡◌, ◌<◌, ◌≤◌, ◌++◌, ◌==◌, ℕ, List, Option, None, IfOk, IfErr, MatchResult, OnOk, option_map, if◌then◌else◌};
 ghost use Rattle.std.specs.Io.KnownBytes.{Appends};
-ghost use Rattle.command_texts.specs.Answers.{IsListStop, IsReadFault, Says};
+ghost use Rattle.command_texts.specs.Answers.{IsListStop, IsReadFault};
 ghost use Rattle.command_texts.specs.Fields.{IsAnswerTold};
 ghost use Rattle.command_texts.specs.Reasons.{place_of, told_place};
 ghost use Rattle.command_texts.specs.Several.{AreListed, IsListStatus, IsListed, StopsSeveral, TellsOneUnread, TellsSeveral, TellsUnread, greater, in_object, list_end, listed_as, style_of};
@@ -12,10 +12,9 @@ ghost use Rattle.text_access.specs.Written.{BothGain, Gains};
 
 use crate::answer::{ACCEPTED, Answer, Fault, given, tell, written};
 use crate::console::Console;
-use crate::fields::as_told;
 use crate::naming::read_named;
 use crate::noting::tell_note;
-use crate::performing::OnOne;
+use crate::performing::{OnOne, noted_answer};
 use crate::shown::{push_quoted, push_shown};
 use crate::taking::Taker;
 use crate::why::{Telling, Why, tell_why};
@@ -78,21 +77,23 @@ impl Listing<'_> {
     }
 }
 
-// Returns an answer in the form that it has in a list.
-fn as_listed(
+// Writes an answer in the form that it has in a list, and returns its status.
+fn write_listed<O: Write>(
     alloc: Global,
     listing: Listing<'_>,
     name: &str,
     answer: &Answer,
-) -> Result<Answer, AllocError>
-    ensures { IfOk result (λ entry. Says entry (listed_as (style_of listing.entry) name.now answer.now.text.items) answer.now.status) }
+    output: &mut O,
+) -> Result<u8, Fault<'static>>
+    ensures status { IfOk result (λ s. s ≡ answer.now.status) }
+    ensures text { IfOk result (λ _. Appends (O.contents output.old) (O.contents output.new) (listed_as (style_of listing.entry) name.now answer.now.text.items)) }
+    ensures stop { IfErr result IsListStop }
+    ensures gains { Gains (O.contents output.old) (O.contents output.new) }
 {
     let mut text = Vec::new(alloc);
-    listing.push_answer(&mut text, name, answer)?;
-    Ok(Answer {
-        text,
-        status: answer.status,
-    })
+    given(listing.push_answer(&mut text, name, answer))?;
+    let status = answer.status;
+    written(&Answer { text, status }, output)
 }
 
 // Writes the answer to what was found in the text under a name, and why the text is refused, or its note. Returns the
@@ -112,11 +113,8 @@ fn list_found<'a, C: OnOne, R: Threads + Sync, S: TextSource, I: Read + Send, O:
     ensures stays { console.new.texts ≡ console.old.texts }
     ensures gains { BothGain (O.contents console.old.output, E.contents console.old.errors) (O.contents console.new.output, E.contents console.new.errors) }
 {
-    let found_answer = command.answer(console.alloc, found)?;
-    let answer = as_told(console.alloc, found_answer, command.telling(), why)?;
-    let entry = given(as_listed(console.alloc, listing, name, &answer))?;
-    let noted = given(command.note(console.alloc, found, &answer))?;
-    let status = written(&entry, &mut console.output)?;
+    let (answer, noted) = noted_answer(console.alloc, command, found, why)?;
+    let status = write_listed(console.alloc, listing, name, &answer, &mut console.output)?;
     tell_why(console.alloc, why, Telling::Short, &mut console.errors);
     tell_note(name, &noted, &mut console.errors);
     Ok(status)

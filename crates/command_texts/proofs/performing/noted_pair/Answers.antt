@@ -1,0 +1,31 @@
+use Rattle.std.proofs.Common.{ℕ, Option, Result, IfOk, subst}
+use Rattle.std.specs.Prelude.{IfSome}
+use Rattle.std.specs.Global.{Vec}
+use Rattle.std.specs.declared.alloc.AllocError.{AllocError}
+use Rattle.std.proofs.lemmas.Result.{err_from_is_err_and}
+use Rattle.command_texts.specs.Reasons.{IsFirstRefused}
+use Rattle.command_texts.proofs.Objects.{answer_told}
+use Rattle.command_texts.proofs.performing.noted_pair.Goals as goal
+
+pub returns-in_err-found_answer-clause-fault : goal.returns-in_err-found_answer-clause-fault
+returns-in_err-found_answer-clause-fault g c = let p = err_from_is_err_and c.from_residual.result c.from_residual.ensures.1 in rw (p.1, p.2) c.in_err-found_answer.ensures.fault
+
+pub returns-in_err-answer-clause-fault : goal.returns-in_err-answer-clause-fault
+returns-in_err-answer-clause-fault g c = let p = err_from_is_err_and c.from_residual-in_err-answer.result c.from_residual-in_err-answer.ensures.1 in rw (p.1, p.2) c.in_err-answer.ensures.fault
+
+pub returns-in_err-noted-clause-fault : goal.returns-in_err-noted-clause-fault
+returns-in_err-noted-clause-fault g c = let p = err_from_is_err_and c.from_residual-in_err-noted.result c.from_residual-in_err-noted.ensures.1 in rw (p.1, p.2) c.in_err-noted.ensures.fault
+
+pub returns-clause-few : goal.returns-clause-few
+returns-clause-few g c = λ texts found other. rw c.in_ok-answer.ensures.status (c.in_ok-found_answer.ensures.few texts found other)
+
+pub returns-clause-told : goal.returns-clause-told
+returns-clause-told g c = λ texts line found other refused same.
+    answer_told (IsFirstRefused _ _) (g.C.OnTwo.is_answer c.args.command.now) texts line c.in_ok-found_answer.found_answer.text.items c.in_ok-answer.answer.text.items c.in_ok-answer.answer.status c.telling.result (g.C.OnTwo.how_much c.args.command.now) _ c.telling.ensures same refused (rw c.in_ok-answer.ensures.status (c.in_ok-found_answer.ensures.told texts found other)) c.in_ok-answer.ensures.text
+
+pub returns-clause-noted : goal.returns-clause-noted
+returns-clause-noted g c = λ texts found other.
+    subst (λ (r : Result (Option (Vec ℕ)) AllocError). IfOk r (λ note. IfSome note (λ words. g.C.OnTwo.has_note c.args.command.now texts c.in_ok-answer.answer.status words.items))) c.in_ok-noted.ensures.given (c.note.ensures.told texts found other)
+
+pub returns-clause-said : goal.returns-clause-said
+returns-clause-said g c = λ texts found other. c.in_ok-found_answer.ensures.said texts found other
