@@ -176,12 +176,12 @@ pub fn push_told<L: Lines>(
     requires { IsStory session.now report.now told.now }
     ensures { OnOk result (out.new.items ≡ out.old.items ++ told_object (L.tell lines.now) session.now report.now told.now) }
 {
-    let records = records_of(alloc, session, lines, told)?;
     begin_report(out, lines, session, report)?;
     push_topic(out, lines, session, told)?;
     push_apart(out, lines, session, &told.apart())?;
     push_cause(out, lines, session, cause_of(told))?;
     push_faults(alloc, out, lines, session, &told.page())?;
+    let records = records_of(alloc, session, lines, told)?;
     push_list_under(out, b"records", &records)?;
     end(out)
 }
