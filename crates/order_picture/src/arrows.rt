@@ -4,7 +4,7 @@
 ghost use Rattle.std.specs.Prelude.{◌≡◌, [], ◌∷◌, ◌++◌, Some, flat_map, length, position, option_copied, slice_get, OnOk};
 ghost use Rattle.std.specs.List.{enumerate_from};
 ghost use Rattle.order_picture.specs.Marks.{is_one};
-ghost use Rattle.order_picture.specs.Arrows.{arrow_to, arrows, is_direct, is_marked, received_kind, received_shape, seat_behind, sender_at, tie_between, tie_kind, tie_to, ties};
+ghost use Rattle.order_picture.specs.Arrows.{arrow_to, arrows, is_marked, received_kind, received_shape, seat_behind, tie_kind, tie_to, ties};
 
 use crate::behind::{Tie, tie_of};
 use crate::focus::Mark;
@@ -56,30 +56,20 @@ fn received_kind(rows: &[PictureRow], row: &PictureRow, from: usize) -> ArrowKin
     }
 }
 
-/// Returns the place of the row whose record a row's record receives, if there is one.
-fn sender_at(senders: &[Option<usize>], place: usize) -> Option<usize>
-    ensures { result ≡ sender_at senders.now place }
-{
-    match senders.get(place) {
-        Some(sender) => *sender,
-        None => None,
-    }
-}
-
 /// Returns the arrow to the record of a row, which receives a record of this log: from that record's row, or from
 /// nowhere if it has none.
 fn received_shape(picture: &Picture, to: Seat, row: &PictureRow, sender: LogName) -> Shape
     ensures { result ≡ received_shape picture.now to row.now sender }
 {
-    match sender_at(&picture.senders, to.row) {
-        Some(from) => Shape::Arrow {
-            from,
+    match picture.senders.get(to.row) {
+        Some(Some(from)) => Shape::Arrow {
+            from: *from,
             from_log: sender,
             to: to.row,
             to_log: to.log,
-            kind: received_kind(&picture.rows, row, from),
+            kind: received_kind(&picture.rows, row, *from),
         },
-        None => Shape::Stub {
+        _ => Shape::Stub {
             row: to.row,
             log: to.log,
             sender,
@@ -119,19 +109,12 @@ pub(crate) fn push_arrows(
     Ok(())
 }
 
-/// Returns whether a waiting record receives the other record itself. Otherwise it receives a later one of the same
-/// log.
-fn is_direct(tie: Tie) -> bool
-    ensures { result ≡ is_direct tie }
-{
-    tie.waiting.sent_place == tie.next.place
-}
-
-/// Returns what the arrow to a waiting record says.
+/// Returns what the arrow to a waiting record says: whether it receives the other record itself, or a later one of the
+/// same log.
 fn tie_kind(tie: Tie) -> ArrowKind
     ensures { result ≡ tie_kind tie }
 {
-    if is_direct(tie) {
+    if tie.waiting.sent_place == tie.next.place {
         ArrowKind::Tied
     } else {
         ArrowKind::TiedBehind
@@ -158,33 +141,24 @@ fn seat_behind(rows: &[PictureRow], behind: &[Name], name: Name) -> Option<Seat>
     }
 }
 
-/// Returns an arrow of this kind, if it has both ends.
-fn tie_between(kind: ArrowKind, from: Option<Seat>, to: Option<Seat>) -> Option<Shape>
-    ensures { result ≡ tie_between kind from to }
+/// Returns the arrow to a record that waits for another, if both are after the order.
+fn tie_to(picture: &Picture, behind: &[Name], name: Name) -> Option<Shape>
+    ensures { result ≡ tie_to picture.now behind.now name }
 {
+    let Some(tie) = tie_of(&picture.told, name) else {
+        return None;
+    };
+    let from = seat_behind(&picture.rows, behind, (tie.next.log, tie.next.place));
+    let to = seat_behind(&picture.rows, behind, name);
     match (from, to) {
         (Some(from), Some(to)) => Some(Shape::Arrow {
             from: from.row,
             from_log: from.log,
             to: to.row,
             to_log: to.log,
-            kind,
+            kind: tie_kind(tie),
         }),
         _ => None,
-    }
-}
-
-/// Returns the arrow to a record that waits for another, if both are after the order.
-fn tie_to(picture: &Picture, behind: &[Name], name: Name) -> Option<Shape>
-    ensures { result ≡ tie_to picture.now behind.now name }
-{
-    match tie_of(&picture.told, name) {
-        Some(tie) => {
-            let from = seat_behind(&picture.rows, behind, (tie.next.log, tie.next.place));
-            let to = seat_behind(&picture.rows, behind, name);
-            tie_between(tie_kind(tie), from, to)
-        }
-        None => None,
     }
 }
 

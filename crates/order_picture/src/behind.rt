@@ -2,7 +2,7 @@
 //! the faulty record, the cause, the record that it is set against, and those that wait for one another.
 
 ghost use Rattle.std.specs.Prelude.{◌≡◌, [], ◌∷◌, ◌++◌, filter, IfOk, OnOk};
-ghost use Rattle.order_picture.specs.Behind.{fault_kind, is_behind, kind_behind, log_behind, names_behind, obstacle_of, place_in, stands_out, tie_at, tie_of};
+ghost use Rattle.order_picture.specs.Behind.{is_behind, kind_behind, log_behind, names_behind, obstacle_of, place_in, tie_of};
 
 use crate::boxes::BoxKind;
 use crate::picture::Picture;
@@ -41,11 +41,14 @@ fn place_in(knot: &Knot, name: Name) -> Option<usize>
         .position(|waiting| is_one(Some((waiting.log, waiting.place)), name))
 }
 
-/// Returns the record at this place of those that wait for one another, and the one that it waits for.
-fn tie_at(knot: &Knot, place: Option<usize>) -> Option<Tie>
-    ensures { result ≡ tie_at knot.now place }
+/// Returns a record and the record that it waits for, if both are among those that wait for one another.
+pub fn tie_of(told: &TopicStory, name: Name) -> Option<Tie>
+    ensures { result ≡ tie_of told.now name }
 {
-    let Some(place) = place else {
+    let TopicStory::Report(Explanation::Knot(knot)) = told else {
+        return None;
+    };
+    let Some(place) = place_in(knot, name) else {
         return None;
     };
     match (knot.waits.get(place), knot.next(place)) {
@@ -57,31 +60,15 @@ fn tie_at(knot: &Knot, place: Option<usize>) -> Option<Tie>
     }
 }
 
-/// Returns a record and the record that it waits for, if both are among those that wait for one another.
-pub fn tie_of(told: &TopicStory, name: Name) -> Option<Tie>
-    ensures { result ≡ tie_of told.now name }
-{
-    match told {
-        TopicStory::Report(Explanation::Knot(knot)) => tie_at(knot, place_in(knot, name)),
-        _ => None,
-    }
-}
-
-/// Returns whether a record has a row even if the order does not reach it.
-fn stands_out(picture: &Picture, name: Name) -> bool
-    ensures { result ≡ stands_out picture.now name }
-{
-    is_one(picture.focus.fault, name)
-        || is_one(picture.focus.cause, name)
-        || is_one(picture.focus.against, name)
-        || tie_of(&picture.told, name).is_some()
-}
-
 /// Returns whether a record that the order does not take has a row.
 fn is_behind(picture: &Picture, name: Name) -> bool
     ensures { result ≡ is_behind picture.now name }
 {
-    name.1 as usize == picture.taken.of(name.0) || stands_out(picture, name)
+    name.1 as usize == picture.taken.of(name.0)
+        || is_one(picture.focus.fault, name)
+        || is_one(picture.focus.cause, name)
+        || is_one(picture.focus.against, name)
+        || tie_of(&picture.told, name).is_some()
 }
 
 /// Appends a record, if it has a row.
@@ -126,23 +113,16 @@ pub(crate) fn names_behind(
     Ok(names)
 }
 
-/// Returns what the box of the faulty record says about it.
-fn fault_kind(picture: &Picture, name: Name) -> BoxKind
-    ensures { result ≡ fault_kind picture.now name }
-{
-    if is_one(picture.focus.cause, name) {
-        BoxKind::OwnCause
-    } else {
-        BoxKind::Faulty
-    }
-}
-
 /// Returns what the box of a record after the order says about it.
 pub(crate) fn kind_behind(picture: &Picture, name: Name) -> BoxKind
     ensures { result ≡ kind_behind picture.now name }
 {
     if is_one(picture.focus.fault, name) {
-        fault_kind(picture, name)
+        if is_one(picture.focus.cause, name) {
+            BoxKind::OwnCause
+        } else {
+            BoxKind::Faulty
+        }
     } else if tie_of(&picture.told, name).is_some() {
         BoxKind::Tied
     } else if is_one(picture.focus.cause, name) {

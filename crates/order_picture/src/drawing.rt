@@ -4,7 +4,7 @@ use crate::arrows::{ArrowKind, Seat};
 use crate::behind::Obstacle;
 use crate::boxes::{BoxKind, Label};
 use crate::elements::{
-    begin_text, end_arrow, end_text, push, push_attribute, push_colours, push_ends, push_figures,
+    begin_text, end_arrow, push, push_attribute, push_colours, push_ends, push_figures,
     push_length, push_paint,
 };
 use crate::heading::Subject;
@@ -21,14 +21,6 @@ use migration_types::LogName;
 use session_story::Name;
 use std::alloc::{AllocError, Global};
 use text_lines::push_number;
-
-/// An arrow from one record to another.
-#[derive(Clone, Copy)]
-pub(crate) struct Arrow {
-    pub from: Seat,
-    pub to: Seat,
-    pub kind: ArrowKind,
-}
 
 /// The box of a record.
 #[derive(Clone, Copy)]
@@ -54,8 +46,7 @@ fn begin_margin(out: &mut Vec<u8>, y: u64) -> Result<(), AllocError> {
 pub(crate) fn push_margin_name(out: &mut Vec<u8>) -> Result<(), AllocError> {
     begin_margin(out, NAMES)?;
     push(out, LINES)?;
-    end_text(out)?;
-    push(out, b"\n")
+    push(out, b"</text>\n")
 }
 
 /// Appends a column's name, and the line down it as far as this many rows.
@@ -72,8 +63,7 @@ pub(crate) fn push_column(
     push_length(out, b"x", x)?;
     push(out, b">")?;
     push(out, log.word().as_bytes())?;
-    end_text(out)?;
-    push(out, b"\n<line")?;
+    push(out, b"</text>\n<line")?;
     push_ends(out, x, COLUMNS_TOP, x, top_of(rows))?;
     push_paint(out, COLUMN)?;
     push(out, b"/>\n")
@@ -94,12 +84,12 @@ fn push_line(
     push(out, b"\n")
 }
 
-/// Returns the height of an arrow at a row.
-fn height_at(arrow: &Arrow, row: usize) -> u64 {
-    match arrow.kind {
+/// Returns the height at a row of an arrow of this kind, which goes down or up.
+fn height_at(row: usize, kind: ArrowKind, is_down: bool) -> u64 {
+    match kind {
         ArrowKind::Received | ArrowKind::OfPage => middle_of(row),
         ArrowKind::Tied | ArrowKind::TiedBehind => {
-            if arrow.from.row < arrow.to.row {
+            if is_down {
                 middle_of(row).saturating_add(APART)
             } else {
                 middle_of(row).saturating_sub(APART)
@@ -112,17 +102,17 @@ fn height_at(arrow: &Arrow, row: usize) -> u64 {
 pub(crate) fn push_arrow(
     out: &mut Vec<u8>,
     columns: Columns,
-    arrow: &Arrow,
+    from: Seat,
+    to: Seat,
+    kind: ArrowKind,
 ) -> Result<(), AllocError> {
-    let from = (
-        columns.side(arrow.from, arrow.to.log),
-        height_at(arrow, arrow.from.row),
+    let is_down = from.row < to.row;
+    let begin = (
+        columns.side(from, to.log),
+        height_at(from.row, kind, is_down),
     );
-    let to = (
-        columns.side(arrow.to, arrow.from.log),
-        height_at(arrow, arrow.to.row),
-    );
-    push_line(out, from, to, arrow_paint(arrow.kind), arrow.kind)
+    let end = (columns.side(to, from.log), height_at(to.row, kind, is_down));
+    push_line(out, begin, end, arrow_paint(kind), kind)
 }
 
 /// Appends the end of an arrow from a record that has no row.
@@ -179,7 +169,7 @@ fn push_record_line(out: &mut Vec<u8>, one: &RecordBox) -> Result<(), AllocError
     }
     begin_margin(out, top_of(one.row).saturating_add(ROW_TEXT))?;
     push_number(out, one.line)?;
-    end_text(out)
+    push(out, b"</text>")
 }
 
 /// Appends a box with its figures: a cross if the record is faulty or waits for another waiting record, a flag if it is
@@ -220,8 +210,7 @@ fn push_box_text(
     push_length(out, b"dx", NUMBER_GAP)?;
     push(out, b">")?;
     push_label(out, subject, one)?;
-    push(out, b"</tspan>")?;
-    end_text(out)
+    push(out, b"</tspan></text>")
 }
 
 /// Appends the row of a record.
@@ -243,21 +232,7 @@ pub(crate) fn push_record(
     push(out, b"</g>\n")
 }
 
-/// Appends the frame around folded records, for this many letters.
-fn push_frame(out: &mut Vec<u8>, middle: u64, row: usize, letters: u64) -> Result<(), AllocError> {
-    let width = letters.saturating_mul(LETTER).saturating_add(FOLD_BESIDE);
-    push(out, b"<rect")?;
-    push_attribute(out, b"class", FOLD_FRAME.class)?;
-    push_length(out, b"height", FOLD)?;
-    push_length(out, b"rx", FOLD_CORNER)?;
-    push_colours(out, FOLD_FRAME)?;
-    push_length(out, b"x", middle.saturating_sub(width / 2))?;
-    push_length(out, b"width", width)?;
-    push_length(out, b"y", top_of(row).saturating_add(FOLD_TOP))?;
-    push(out, b"/>")
-}
-
-/// Appends a row of folded records, with these words.
+/// Appends a row of folded records, with these words in a frame.
 fn push_fold_words(
     out: &mut Vec<u8>,
     columns: Columns,
@@ -265,16 +240,24 @@ fn push_fold_words(
     words: &[u8],
 ) -> Result<(), AllocError> {
     let middle = COLUMNS_LEFT.saturating_add(columns.width()) / 2;
-    push(out, b"<g class='row fold-row'>")?;
-    push_frame(out, middle, row, words.len() as u64)?;
+    let letters = words.len() as u64;
+    let width = letters.saturating_mul(LETTER).saturating_add(FOLD_BESIDE);
+    push(out, b"<g class='row fold-row'><rect")?;
+    push_attribute(out, b"class", FOLD_FRAME.class)?;
+    push_length(out, b"height", FOLD)?;
+    push_length(out, b"rx", FOLD_CORNER)?;
+    push_colours(out, FOLD_FRAME)?;
+    push_length(out, b"x", middle.saturating_sub(width / 2))?;
+    push_length(out, b"width", width)?;
+    push_length(out, b"y", top_of(row).saturating_add(FOLD_TOP))?;
+    push(out, b"/>")?;
     begin_text(out, SOFT)?;
     push_attribute(out, b"text-anchor", b"middle")?;
     push_length(out, b"x", middle)?;
     push_length(out, b"y", top_of(row).saturating_add(ROW_TEXT))?;
     push(out, b">")?;
     push(out, words)?;
-    end_text(out)?;
-    push(out, b"</g>\n")
+    push(out, b"</text></g>\n")
 }
 
 /// Appends a row of folded records.

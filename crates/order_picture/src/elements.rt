@@ -55,11 +55,6 @@ pub(crate) fn begin_text(out: &mut Vec<u8>, paint: Paint) -> Result<(), AllocErr
     push_paint(out, paint)
 }
 
-/// Ends a text.
-pub(crate) fn end_text(out: &mut Vec<u8>) -> Result<(), AllocError> {
-    push(out, b"</text>")
-}
-
 /// Begins a group that is moved to a point.
 pub(crate) fn begin_at(out: &mut Vec<u8>, x: u64, y: u64) -> Result<(), AllocError> {
     push(out, b"<g transform='translate(")?;

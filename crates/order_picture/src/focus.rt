@@ -1,16 +1,13 @@
 //! What a picture is about: a faulty record, the cause, the record that it is set against, and a page.
 
-ghost use Rattle.std.specs.Prelude.{◌≡◌, option_and_then};
-ghost use Rattle.session_story.specs.Subjects.{page_of};
-ghost use Rattle.order_picture.specs.Marks.{fault_mark, is_page, mark_of};
-ghost use Rattle.order_picture.specs.Pictures.{against_for, against_in, blamed_in, fault_for, fault_of, faulty_in, number_in, page_for, IsFocus};
+ghost use Rattle.std.specs.Prelude.{◌≡◌};
+ghost use Rattle.order_picture.specs.Marks.{is_page, mark_of};
+ghost use Rattle.order_picture.specs.Pictures.{against_for, against_in, fault_for, fault_of, page_for, IsFocus};
 
 use crate::records::is_one;
 use audit_report::Report;
 use migration_types::{PageNo, Session};
-use session_story::{
-    Cause, FaultStory, FullPageStory, Name, TopicStory, cause_of, concerned_of, page_of,
-};
+use session_story::{Cause, Name, TopicStory, cause_of, concerned_of, page_of};
 
 /// Why a record stands out.
 #[derive(Clone, Copy)]
@@ -51,23 +48,16 @@ pub(crate) fn is_page(page: Option<PageNo>, other: Option<PageNo>) -> bool
     }
 }
 
-/// Returns the mark of the faulty record.
-fn fault_mark(focus: &Focus, name: Name) -> Mark
-    ensures { result ≡ fault_mark focus.now name }
-{
-    if is_one(focus.cause, name) {
-        Mark::OwnCause
-    } else {
-        Mark::Faulty
-    }
-}
-
 /// Returns the mark of a record.
 pub(crate) fn mark_of(session: &Session, focus: &Focus, name: Name) -> Mark
     ensures { result ≡ mark_of session.now focus.now name }
 {
     if is_one(focus.fault, name) {
-        return fault_mark(focus, name);
+        return if is_one(focus.cause, name) {
+            Mark::OwnCause
+        } else {
+            Mark::Faulty
+        };
     }
     if is_one(focus.cause, name) {
         return Mark::Cause;
@@ -93,43 +83,16 @@ fn fault_of(report: &Report) -> Option<Name>
     }
 }
 
-/// Returns the record of a fault of a page, if there is one.
-fn faulty_in(fault: &Option<FaultStory>) -> Option<Name>
-    ensures { result ≡ faulty_in fault.now }
-{
-    match fault {
-        Some(story) => Some((story.fault.log, story.fault.place)),
-        None => None,
-    }
-}
-
 /// Returns the faulty record that a picture is about, given the story.
 fn fault_for(report: &Report, told: &TopicStory) -> Option<Name>
     ensures { result ≡ fault_for report.now told.now }
 {
     match told {
         TopicStory::Report(_) => fault_of(report),
-        _ => faulty_in(&told.fault()),
-    }
-}
-
-/// Returns the page that the report's faulty record is about, if there is one.
-fn page_of_fault(session: &Session, report: &Report) -> Option<PageNo>
-    ensures { result ≡ option_and_then (page_of session.now) (fault_of report.now) }
-{
-    match fault_of(report) {
-        Some(name) => page_of(session, name),
-        None => None,
-    }
-}
-
-/// Returns the page of the story, if there is one.
-fn number_in(page: &Option<FullPageStory>) -> Option<PageNo>
-    ensures { result ≡ number_in page.now }
-{
-    match page {
-        Some(told) => Some(told.story.page),
-        None => None,
+        _ => match told.fault() {
+            Some(story) => Some((story.fault.log, story.fault.place)),
+            None => None,
+        },
     }
 }
 
@@ -138,18 +101,14 @@ fn page_for(session: &Session, report: &Report, told: &TopicStory) -> Option<Pag
     ensures { result ≡ page_for session.now report.now told.now }
 {
     match told {
-        TopicStory::Report(_) => page_of_fault(session, report),
-        _ => number_in(&told.page()),
-    }
-}
-
-/// Returns the record that is the cause, if there is one.
-fn blamed_in(cause: &Option<Cause>) -> Option<Name>
-    ensures { result ≡ blamed_in cause.now }
-{
-    match cause {
-        Some(cause) => cause.blamed,
-        None => None,
+        TopicStory::Report(_) => match fault_of(report) {
+            Some(name) => page_of(session, name),
+            None => None,
+        },
+        _ => match told.page() {
+            Some(told) => Some(told.story.page),
+            None => None,
+        },
     }
 }
 
@@ -179,8 +138,11 @@ pub(crate) fn focus_of(session: &Session, report: &Report, told: &TopicStory) ->
 {
     Focus {
         fault: fault_for(report, told),
-        cause: blamed_in(&cause_of(told)),
         against: against_for(session, told),
         page: page_for(session, report, told),
+        cause: match cause_of(told) {
+            Some(cause) => cause.blamed,
+            None => None,
+        },
     }
 }

@@ -4,12 +4,11 @@ ghost use Rattle.std.specs.Prelude.{OnOk, string_bytes};
 ghost use Rattle.story_words.specs.Sentences.{told_first};
 ghost use Rattle.story_words.specs.Writing.{Adds, AreWritten, IsLine};
 
-use crate::elements::{begin_text, end_text, push, push_length};
+use crate::elements::{begin_text, push, push_length};
 use crate::shapes::Shape;
 use crate::shown::OrderShown;
 use crate::style::{
-    HEADING_END, HEADING_LEFT, HEADING_LETTER, HEADING_LINE, HEADING_TOP, INK, TITLE_FONT,
-    TITLE_TOP,
+    HEADING_LEFT, HEADING_LETTER, HEADING_LINE, HEADING_TOP, INK, TITLE_FONT, TITLE_TOP,
 };
 use crate::words::{push_facts, push_order};
 use audit_report::{OwnLines, Report, push_first_line};
@@ -43,14 +42,9 @@ fn push_summary(out: &mut String, session: &Session, told: &TopicStory) -> Resul
 pub(crate) struct Heading {
     pub text: Vec<u8>,
     /// The height of its next line.
-    y: u64,
+    pub y: u64,
     /// The greatest number of letters in a line.
     most: u64,
-}
-
-/// Returns whether a line of at most this many letters has room for one more word.
-fn has_room(most: u64, line: &[u8], word: &[u8]) -> bool {
-    line.is_empty() || (line.len().saturating_add(word.len()) as u64) < most
 }
 
 /// Appends the first line, which is the report's.
@@ -61,16 +55,10 @@ fn push_title(out: &mut Vec<u8>, report: &Report) -> Result<(), AllocError> {
     push_length(out, b"font-size", TITLE_FONT)?;
     push(out, b" font-weight='bold'>")?;
     push_first_line(out, report)?;
-    end_text(out)?;
-    push(out, b"\n")
+    push(out, b"</text>\n")
 }
 
 impl Heading {
-    /// Returns how much room it takes beyond four lines.
-    pub(crate) fn beyond(&self) -> u64 {
-        self.y.saturating_sub(HEADING_END)
-    }
-
     /// Appends a line.
     fn push_line(&mut self, words: &[u8]) -> Result<(), AllocError> {
         begin_text(&mut self.text, INK)?;
@@ -78,20 +66,20 @@ impl Heading {
         push_length(&mut self.text, b"y", self.y)?;
         push(&mut self.text, b">")?;
         push(&mut self.text, words)?;
-        end_text(&mut self.text)?;
-        push(&mut self.text, b"\n")?;
+        push(&mut self.text, b"</text>\n")?;
         self.y = self.y.saturating_add(HEADING_LINE);
         Ok(())
     }
 
     /// Appends a word to a line, or begins the next line with it if the line has no room for it.
     fn push_word(&mut self, line: &mut Vec<u8>, word: &[u8]) -> Result<(), AllocError> {
-        if !has_room(self.most, line, word) {
-            self.push_line(line)?;
-            line.clear();
-        }
         if !line.is_empty() {
-            push(line, b" ")?;
+            if (line.len().saturating_add(word.len()) as u64) < self.most {
+                push(line, b" ")?;
+            } else {
+                self.push_line(line)?;
+                line.clear();
+            }
         }
         push(line, word)
     }

@@ -4,6 +4,7 @@
 //! the record that it is set against.
 
 use crate::focus::{Focus, is_page};
+use crate::records::guest_record;
 use crate::rows::{Certain, is_certain};
 use migration_types::{GuestRec, LOG_COUNT, LogName, Run, Session, logs};
 use session_story::{Name, TopicStory, page_of, tells_of};
@@ -15,56 +16,11 @@ const MOST_AT_ENDS: usize = 8;
 /// How many are kept on each side of the middle.
 const MOST_BESIDE: usize = 40;
 
-/// Where each log begins if all records of a session stand in one list, log after log, and how many records there are.
-#[derive(Clone, Copy)]
-struct Begins {
-    logs: [usize; LOG_COUNT],
-    all: usize,
-}
-
-impl Begins {
-    /// Returns where the logs of a session begin.
-    fn of(session: &Session) -> Self {
-        let mut begins = Begins {
-            logs: [0; LOG_COUNT],
-            all: 0,
-        };
-        for log in logs() {
-            begins.logs[log.index()] = begins.all;
-            begins.all = begins.all.saturating_add(session.len(log));
-        }
-        begins
-    }
-
-    /// Returns the place of a record among all records of the session.
-    fn place(&self, name: Name) -> usize {
-        self.logs[name.0.index()].saturating_add(name.1 as usize)
-    }
-}
-
 /// Marks a place as wanted, if it exists.
 fn want(wanted: &mut Vec<bool>, place: usize) {
     if let Some(is_wanted) = wanted.get_mut(place) {
         *is_wanted = true;
     }
-}
-
-/// Returns whether the record is the halt or the resume.
-fn hands_over(session: &Session, name: Name) -> bool {
-    name.0 == LogName::Guest
-        && matches!(
-            session.guest().get(name.1 as usize),
-            Some(GuestRec::Halt | GuestRec::Resume { .. })
-        )
-}
-
-/// Returns whether the record reads or writes a page.
-fn uses(session: &Session, name: Name) -> bool {
-    name.0 == LogName::Guest
-        && matches!(
-            session.guest().get(name.1 as usize),
-            Some(GuestRec::Read { .. } | GuestRec::Write { .. })
-        )
 }
 
 /// Returns whether a record of the guest, if there is one, reads or writes another page than the picture is about, or any
@@ -99,15 +55,15 @@ pub(crate) struct Keeping<'a> {
 /// page.
 fn concerns(keeping: &Keeping<'_>, place: usize, name: Name) -> bool {
     let session = keeping.session;
-    if hands_over(session, name) {
-        return true;
-    }
+    let uses = match guest_record(session, name) {
+        Some(GuestRec::Halt | GuestRec::Resume { .. }) => return true,
+        Some(GuestRec::Read { .. } | GuestRec::Write { .. }) => true,
+        _ => false,
+    };
     match keeping.focus.page {
         Some(_) => {
             is_page(keeping.focus.page, page_of(session, name))
-                && (place > keeping.middle
-                    || !uses(session, name)
-                    || tells_of(keeping.told, name.1))
+                && (place > keeping.middle || !uses || tells_of(keeping.told, name.1))
         }
         None => matches!(keeping.told, TopicStory::Report(_)) && session.named(name).is_some(),
     }
@@ -116,7 +72,8 @@ fn concerns(keeping: &Keeping<'_>, place: usize, name: Name) -> bool {
 /// The records of a session, of which some are wanted.
 #[derive(Drop)]
 struct Flags {
-    begins: Begins,
+    /// Where each log begins if all records stand in one list, log after log.
+    begins: [usize; LOG_COUNT],
     /// For each record, whether it is wanted.
     wanted: Vec<bool>,
 }
@@ -124,14 +81,24 @@ struct Flags {
 impl Flags {
     /// Returns the flags of a session's records, with none wanted.
     fn of(alloc: Global, session: &Session) -> Result<Self, AllocError> {
-        let begins = Begins::of(session);
-        let wanted = vec![in alloc; false; begins.all]?;
+        let mut begins = [0; LOG_COUNT];
+        let mut all: usize = 0;
+        for log in logs() {
+            begins[log.index()] = all;
+            all = all.saturating_add(session.len(log));
+        }
+        let wanted = vec![in alloc; false; all]?;
         Ok(Flags { begins, wanted })
+    }
+
+    /// Returns the place of a record among all records of the session.
+    fn place(&self, name: Name) -> usize {
+        self.begins[name.0.index()].saturating_add(name.1 as usize)
     }
 
     /// Wants a record.
     fn want(&mut self, name: Name) {
-        let place = self.begins.place(name);
+        let place = self.place(name);
         want(&mut self.wanted, place);
     }
 
@@ -145,7 +112,7 @@ impl Flags {
 
     /// Returns whether this many records of a log are wanted, from one on.
     fn of_run(&self, name: Name, count: usize) -> &[bool] {
-        let from = self.begins.place(name);
+        let from = self.place(name);
         self.wanted
             .get(from..from.saturating_add(count))
             .unwrap_or(&[])

@@ -3,9 +3,10 @@
 use crate::boxes::Label;
 use crate::drawing::RecordBox;
 use crate::heading::Subject;
+use crate::records::guest_record;
 use crate::words::RIGHT_VALUE;
-use migration_types::{Field, GuestRec, LogName, Session};
-use session_story::{Amended, Name, amended_by};
+use migration_types::{Field, GuestRec, Session};
+use session_story::{Name, amended_by};
 use std::alloc::AllocError;
 use text_lines::push_number;
 
@@ -37,25 +38,12 @@ fn push_field(out: &mut Vec<u8>, field: Field) -> Result<(), AllocError> {
 
 /// Returns the word for what was done: for a use or a release, a word instead of the letter that lines have.
 fn done_word(session: &Session, name: Name, word: &'static [u8]) -> &'static [u8] {
-    let used = match name.0 {
-        LogName::Guest => session.guest().get(name.1 as usize).copied(),
-        _ => None,
-    };
-    match used {
+    match guest_record(session, name) {
         Some(GuestRec::Read { .. }) => b"read",
         Some(GuestRec::Write { .. }) => b"write",
         Some(GuestRec::Release { .. }) => b"release",
         _ => word,
     }
-}
-
-/// Appends the cell with the wrong value, and the right one, as in " p1[0] = 7, right: 9".
-fn push_amended(out: &mut Vec<u8>, amended: &Amended) -> Result<(), AllocError> {
-    push_field(out, Field::Page(amended.page))?;
-    push_field(out, Field::Cell(amended.cell))?;
-    push_field(out, Field::Value(amended.wrong))?;
-    out.extend_from_slice(RIGHT_VALUE)?;
-    push_number(out, amended.right)
 }
 
 /// Appends the fields of a record.
@@ -66,12 +54,17 @@ fn push_fields(out: &mut Vec<u8>, fields: &[Field]) -> Result<(), AllocError> {
     Ok(())
 }
 
-/// Appends the wrong value of the faulty record, and the right one, if they are known.
+/// Appends the cell with the wrong value of the faulty record, and the right one, if they are known, as in " p1[0] = 7,
+/// right: 9".
 fn push_wrong(out: &mut Vec<u8>, subject: Subject<'_>) -> Result<(), AllocError> {
-    match amended_by(subject.session, subject.told) {
-        Some(amended) => push_amended(out, &amended),
-        None => Ok(()),
-    }
+    let Some(amended) = amended_by(subject.session, subject.told) else {
+        return Ok(());
+    };
+    push_field(out, Field::Page(amended.page))?;
+    push_field(out, Field::Cell(amended.cell))?;
+    push_field(out, Field::Value(amended.wrong))?;
+    out.extend_from_slice(RIGHT_VALUE)?;
+    push_number(out, amended.right)
 }
 
 /// Appends the label of a box.

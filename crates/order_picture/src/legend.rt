@@ -3,8 +3,7 @@
 use crate::arrows::ArrowKind;
 use crate::boxes::BoxKind;
 use crate::elements::{
-    begin_at, begin_text, end_arrow, end_text, push, push_ends, push_figures, push_length,
-    push_paint,
+    begin_at, begin_text, end_arrow, push, push_ends, push_figures, push_length, push_paint,
 };
 use crate::signs::Sign;
 use crate::style::{
@@ -69,8 +68,7 @@ pub(crate) fn push_entry(out: &mut Vec<u8>, place: u64, sign: Sign) -> Result<()
     push_length(out, b"y", MEANING_TOP)?;
     push(out, b">")?;
     push(out, meaning_of(sign))?;
-    end_text(out)?;
-    push(out, b"</g>\n")
+    push(out, b"</text></g>\n")
 }
 
 /// Returns how much room a legend with this many entries takes.

@@ -12,7 +12,7 @@ ghost use Rattle.session_story.specs.Topics.{IsTold};
 use crate::focus::{Focus, Mark, focus_of};
 use crate::keeping::{Keeping, kept_in};
 use crate::order::{OrderPart, part_along};
-use crate::records::is_one;
+use crate::records::{guest_record, is_one};
 use crate::rows::{Certain, rows_of};
 use audit_report::Report;
 use merge_runs::TakenCounts;
@@ -104,15 +104,6 @@ fn senders_of(
         .collect(alloc)
 }
 
-/// Returns whether this record resumes the guest at the target.
-fn resumes(session: &Session, name: Name) -> bool {
-    name.0 == LogName::Guest
-        && matches!(
-            session.guest().get(name.1 as usize),
-            Some(GuestRec::Resume { .. })
-        )
-}
-
 /// Returns the place of an order around which most is shown: the faulty record, or the end if the order is not
 /// complete, or the resume.
 fn middle_of(session: &Session, fault: Option<usize>, order: &[Name], is_whole: bool) -> usize {
@@ -124,7 +115,7 @@ fn middle_of(session: &Session, fault: Option<usize>, order: &[Name], is_whole: 
     }
     order
         .iter()
-        .position(|name| resumes(session, *name))
+        .position(|name| matches!(guest_record(session, *name), Some(GuestRec::Resume { .. })))
         .unwrap_or(0)
 }
 

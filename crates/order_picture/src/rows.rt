@@ -180,28 +180,6 @@ impl Building {
         self.keep(name, mark)?;
         Ok(())
     }
-
-    /// Takes the next record, whose row may be certain.
-    fn take(
-        &mut self,
-        name: Name,
-        mark: Mark,
-        wanted: bool,
-        certain: bool,
-    ) -> Result<(), AllocError>
-        requires few { self.old.folded + 1 < 2 ^ 64 }
-        requires since { cursors_of self.old.since name.0 ≤ self.old.folded }
-        ensures built { (look : Named → Marked) (names : List Named) → mark ≡ look name → IsBuilt look self.old names → OnOk result (IsBuilt look self.new (names ++ name ∷ [])) }
-        ensures few { OnOk result (length self.new.rows.items + self.new.room + 2 * self.new.fault_left ≤ length self.old.rows.items + self.old.room + 2 * self.old.fault_left + (if certain then 2 else 0)) }
-        ensures more { OnOk result (Extends self.old.rows.items self.new.rows.items) }
-        ensures own { certain ≡ true → OnOk result (has_row self.new.rows.items name ≡ true) }
-    {
-        if certain {
-            self.keep_certain(name, mark)
-        } else {
-            self.take_uncertain(name, mark, wanted)
-        }
-    }
 }
 
 /// Returns whether a place is right before or right after another, if there is another.
@@ -283,7 +261,11 @@ fn take_next(
         return Ok(());
     }
     let mark = mark_of(session, focus, name);
-    building.take(name, mark, wanted, certain)
+    if certain {
+        building.keep_certain(name, mark)
+    } else {
+        building.take_uncertain(name, mark, wanted)
+    }
 }
 
 /// Takes the records of an order, given which places are wanted.

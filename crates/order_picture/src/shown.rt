@@ -1,7 +1,7 @@
 //! What the heading of a picture says about the order that is shown.
 
 ghost use Rattle.std.specs.Prelude.{◌≡◌};
-ghost use Rattle.order_picture.specs.Shown.{faulty_order, found_order, given_order, order_shown, reported_order};
+ghost use Rattle.order_picture.specs.Shown.{faulty_order, order_shown};
 
 use crate::picture::Picture;
 use audit_report::Report;
@@ -51,42 +51,15 @@ fn faulty_order(told: &TopicStory) -> OrderShown
     }
 }
 
-/// Returns what the heading says about the found order, given the first of its runs that cannot be taken.
-fn found_order(bad: Option<usize>) -> OrderShown
-    ensures { result ≡ found_order bad }
-{
-    match bad {
-        Some(_) => OrderShown::FoundPart,
-        None => OrderShown::Found,
-    }
-}
-
-/// Returns what the heading says about given runs, given the first of them that cannot be taken.
-fn given_order(bad: Option<usize>) -> OrderShown
-    ensures { result ≡ given_order bad }
-{
-    match bad {
-        Some(place) => OrderShown::GivenPart(place),
-        None => OrderShown::Given,
-    }
-}
-
-/// Returns what the heading says about the order of a report.
-fn reported_order(report: &Report, picture: &Picture) -> OrderShown
-    ensures { result ≡ reported_order report.now picture.now }
-{
-    match report {
-        Report::Faulty { .. } => faulty_order(&picture.told),
-        _ => found_order(picture.bad),
-    }
-}
-
 /// Returns what the heading says about the order that a picture shows.
 pub(crate) fn order_shown(report: &Report, picture: &Picture, shown: Shown) -> OrderShown
     ensures { result ≡ order_shown report.now picture.now shown }
 {
-    match shown {
-        Shown::Reported => reported_order(report, picture),
-        Shown::Given => given_order(picture.bad),
+    match (shown, report, picture.bad) {
+        (Shown::Reported, Report::Faulty { .. }, _) => faulty_order(&picture.told),
+        (Shown::Reported, _, Some(_)) => OrderShown::FoundPart,
+        (Shown::Reported, _, None) => OrderShown::Found,
+        (Shown::Given, _, Some(place)) => OrderShown::GivenPart(place),
+        (Shown::Given, _, None) => OrderShown::Given,
     }
 }

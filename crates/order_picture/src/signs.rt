@@ -1,7 +1,7 @@
 //! The signs that a legend explains.
 
 ghost use Rattle.std.specs.Prelude.{◌≡◌, filter, IfOk};
-ghost use Rattle.order_picture.specs.Signs.{arrow_sign, box_sign, number_of, occurs, shows, sign_of, signs, signs_in};
+ghost use Rattle.order_picture.specs.Signs.{arrow_sign, box_sign, number_of, occurs, shows, sign_of, signs_in};
 
 use crate::arrows::ArrowKind;
 use crate::boxes::BoxKind;
@@ -35,26 +35,6 @@ pub enum Sign {
     Arrow,
     /// The end of such an arrow from a record that has no row.
     Stub,
-}
-
-/// Returns the signs, in the order of a legend.
-fn signs() -> [Sign; 12]
-    ensures { result ≡ signs }
-{
-    [
-        Sign::Faulty,
-        Sign::OwnCause,
-        Sign::Cause,
-        Sign::Tied,
-        Sign::Tie,
-        Sign::TieBehind,
-        Sign::Against,
-        Sign::OfPage,
-        Sign::Plain,
-        Sign::Stuck,
-        Sign::Arrow,
-        Sign::Stub,
-    ]
 }
 
 /// Returns the sign for a box.
@@ -138,7 +118,21 @@ pub(crate) fn signs_in(alloc: Global, shapes: &[Shape]) -> Result<Vec<Sign>, All
     ensures { IfOk result (λ found. found.items ≡ signs_in shapes.now) }
 {
     let mut found = Vec::new(alloc);
-    for sign in signs() {
+    let signs = [
+        Sign::Faulty,
+        Sign::OwnCause,
+        Sign::Cause,
+        Sign::Tied,
+        Sign::Tie,
+        Sign::TieBehind,
+        Sign::Against,
+        Sign::OfPage,
+        Sign::Plain,
+        Sign::Stuck,
+        Sign::Arrow,
+        Sign::Stub,
+    ];
+    for sign in signs {
         if occurs(shapes, sign) {
             found.push(sign)?;
         }

@@ -358,15 +358,6 @@ pub(crate) struct ArrowHead {
     pub paint: Paint,
 }
 
-/// Returns the heads of the arrows.
-pub(crate) fn heads() -> [ArrowHead; 3] {
-    [
-        head_of(ArrowKind::Received),
-        head_of(ArrowKind::OfPage),
-        head_of(ArrowKind::Tied),
-    ]
-}
-
 /// Returns the head of an arrow.
 pub(crate) fn head_of(kind: ArrowKind) -> ArrowHead {
     match kind {

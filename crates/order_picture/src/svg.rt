@@ -4,10 +4,9 @@ ghost use Rattle.std.specs.Prelude.{◌≡◌, ◌++◌, ℕ, List, IfOk, OnOk};
 ghost use Rattle.audit_report.specs.Reports.{IsReport};
 ghost use Rattle.order_picture.specs.Svg.{IsPictureText, IsPictureTextAlong, IsSvg};
 
-use crate::arrows::Seat;
-use crate::boxes::BoxKind;
+use crate::arrows::{ArrowKind, Seat};
 use crate::drawing::{
-    Arrow, RecordBox, push_arrow, push_column, push_fold, push_margin_name, push_record, push_stub,
+    RecordBox, push_arrow, push_column, push_fold, push_margin_name, push_record, push_stub,
 };
 use crate::elements::{push, push_attribute, push_head, push_length, push_paint};
 use crate::heading::{Heading, Subject, heading_of};
@@ -19,7 +18,8 @@ use crate::planning::{plan_along, plan_on};
 use crate::shapes::{Shape, picture_shapes};
 use crate::shown::Shown;
 use crate::style::{
-    COLUMNS_LEFT, DARK_COLOURS, FIGURE_LETTERS, FONT, FONTS, LEGEND_GAP, PAPER, figures_of, heads,
+    COLUMNS_LEFT, DARK_COLOURS, FIGURE_LETTERS, FONT, FONTS, HEADING_END, LEGEND_GAP, PAPER,
+    figures_of, head_of,
 };
 use audit_report::{Report, push_first_line};
 use migration_types::{LOG_COUNT, Run, Session, Topic};
@@ -64,45 +64,18 @@ fn box_of(shape: &Shape) -> Option<RecordBox> {
     }
 }
 
-/// Returns the arrow of a shape, if it has one.
-fn arrow_of(shape: &Shape) -> Option<Arrow> {
-    match shape {
-        Shape::Arrow {
-            from,
-            from_log,
-            to,
-            to_log,
-            kind,
-        } => Some(Arrow {
-            from: Seat {
-                row: *from,
-                log: *from_log,
-            },
-            to: Seat {
-                row: *to,
-                log: *to_log,
-            },
-            kind: *kind,
-        }),
-        _ => None,
-    }
-}
-
-/// Returns how many letters have room in the place of a box's second figure, if it has one.
-fn letters_besides(kind: BoxKind) -> usize {
-    if figures_of(kind)[1].is_some() {
-        FIGURE_LETTERS
-    } else {
-        0
-    }
-}
-
-/// Returns how many letters the label of a box has, with its number and with what stands in the place of letters.
+/// Returns how many letters the label of a box has, with its number and with those that have room in the place of a
+/// second figure, if it has one.
 fn letters_of(alloc: Global, subject: Subject<'_>, one: &RecordBox) -> Result<usize, AllocError> {
     let mut label = Vec::new(alloc);
     push_number(&mut label, one.name.1)?;
     push_label(&mut label, subject, one)?;
-    Ok(label.len().saturating_add(letters_besides(one.kind)))
+    let besides = if figures_of(one.kind)[1].is_some() {
+        FIGURE_LETTERS
+    } else {
+        0
+    };
+    Ok(label.len().saturating_add(besides))
 }
 
 /// Returns the size of the picture of these shapes: it has a row for each record and each fold, and columns as wide as
@@ -150,15 +123,6 @@ fn push_size(out: &mut Vec<u8>, width: u64, height: u64) -> Result<(), AllocErro
     push(out, b">\n")
 }
 
-/// Appends the heads of the arrows.
-fn push_heads(out: &mut Vec<u8>) -> Result<(), AllocError> {
-    push(out, b"<defs>\n")?;
-    for head in heads() {
-        push_head(out, head)?;
-    }
-    push(out, b"</defs>\n")
-}
-
 /// Appends what comes before the heading: the title, the colours for a dark page, the heads of the arrows and the
 /// paper.
 fn push_front(out: &mut Vec<u8>, report: &Report) -> Result<(), AllocError> {
@@ -166,8 +130,11 @@ fn push_front(out: &mut Vec<u8>, report: &Report) -> Result<(), AllocError> {
     push_first_line(out, report)?;
     push(out, b"</title>\n")?;
     push(out, DARK_COLOURS)?;
-    push_heads(out)?;
-    push(out, b"<rect")?;
+    push(out, b"<defs>\n")?;
+    for kind in [ArrowKind::Received, ArrowKind::OfPage, ArrowKind::Tied] {
+        push_head(out, head_of(kind))?;
+    }
+    push(out, b"</defs>\n<rect")?;
     push_paint(out, PAPER)?;
     push(out, b" width='100%' height='100%'/>\n")
 }
@@ -181,14 +148,28 @@ fn push_shape(
     shape: &Shape,
 ) -> Result<(), AllocError> {
     let columns = size.columns;
-    if let Some(arrow) = arrow_of(shape) {
-        return push_arrow(out, columns, &arrow);
-    }
     if let Some(one) = box_of(shape) {
         return push_record(out, alloc, subject, columns, &one);
     }
     match shape {
         Shape::Column(log) => push_column(out, columns, size.rows, *log),
+        Shape::Arrow {
+            from,
+            from_log,
+            to,
+            to_log,
+            kind,
+        } => {
+            let from = Seat {
+                row: *from,
+                log: *from_log,
+            };
+            let to = Seat {
+                row: *to,
+                log: *to_log,
+            };
+            push_arrow(out, columns, from, to, *kind)
+        }
         Shape::Stub { row, log, sender } => {
             let to = Seat {
                 row: *row,
@@ -242,7 +223,7 @@ fn push_inside(
     heading: &Heading,
     shapes: &[Shape],
 ) -> Result<(), AllocError> {
-    let more = heading.beyond();
+    let more = heading.y.saturating_sub(HEADING_END);
     let height = top_of(size.rows)
         .saturating_add(legend_height(size.entries))
         .saturating_add(more);

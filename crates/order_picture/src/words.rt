@@ -68,16 +68,6 @@ pub(crate) fn push_facts(out: &mut Vec<u8>, session: &Session) -> Result<(), All
     push_records(out, &all_of(session))
 }
 
-/// Appends that given runs are shown up to the line of their text that cannot be taken.
-fn push_given_part(out: &mut Vec<u8>, place: usize) -> Result<(), AllocError> {
-    push(
-        out,
-        b"Along the given runs, which are no merging: up to line ",
-    )?;
-    push_number(out, (place as u64).saturating_add(FIRST_RUN_LINE))?;
-    push(out, b" of their text, which cannot be taken")
-}
-
 /// Appends which order is shown.
 pub(crate) fn push_order(out: &mut Vec<u8>, order: OrderShown) -> Result<(), AllocError> {
     match order {
@@ -90,7 +80,14 @@ pub(crate) fn push_order(out: &mut Vec<u8>, order: OrderShown) -> Result<(), All
         OrderShown::Found => push(out, b"In the found order"),
         OrderShown::FoundPart => push(out, b"In the found order, as far as it goes"),
         OrderShown::Given => push(out, b"Along the given runs"),
-        OrderShown::GivenPart(place) => push_given_part(out, place),
+        OrderShown::GivenPart(place) => {
+            push(
+                out,
+                b"Along the given runs, which are no merging: up to line ",
+            )?;
+            push_number(out, (place as u64).saturating_add(FIRST_RUN_LINE))?;
+            push(out, b" of their text, which cannot be taken")
+        }
     }
 }
 
@@ -112,14 +109,6 @@ pub(crate) fn meaning_of(sign: Sign) -> &'static [u8] {
     }
 }
 
-/// Appends to a title which waiting record another one waits for, if it does.
-fn push_waiting(text: &mut String, subject: Subject<'_>, name: Name) -> Result<(), AllocError> {
-    match tie_of(subject.told, name) {
-        Some(tie) => push_wait(text, subject.session, &tie.waiting, &tie.next),
-        None => Ok(()),
-    }
-}
-
 /// Appends to the title of a record's box why the order does not take the record.
 fn push_obstacle(
     text: &mut String,
@@ -129,7 +118,10 @@ fn push_obstacle(
 ) -> Result<(), AllocError> {
     match obstacle {
         Obstacle::Nothing => Ok(()),
-        Obstacle::Waits => push_waiting(text, subject, name),
+        Obstacle::Waits => match tie_of(subject.told, name) {
+            Some(tie) => push_wait(text, subject.session, &tie.waiting, &tie.next),
+            None => Ok(()),
+        },
         Obstacle::NotSent => text.push_str("; cannot be taken: what it receives was not"),
         Obstacle::Unhindered => text.push_str("; not taken"),
     }
