@@ -4,7 +4,7 @@ ghost use Rattle.std.specs.Prelude.{◌≡◌, ◌≤◌, ◌<◌, ℕ, List, le
 ghost use Rattle.std.specs.BinaryHeap.{heap_items};
 ghost use Rattle.recorder_files.specs.Gathered.{Gives, Has, IsGathered, IsTurn, Numbered};
 ghost use Rattle.recorder_files.specs.inner.Heads.{IsLeastOf, lower_of};
-ghost use Rattle.recorder_files.specs.inner.Turns.{AreTurns, IsInOrder, IsOfLast, Waits};
+ghost use Rattle.recorder_files.specs.inner.Turns.{AreKept, AreTurns, IsInOrder, IsOfLast, IsPlaced, IsQueued, Waits, place_of};
 
 use std::alloc::{AllocError, Global};
 use std::cmp::Reverse;
@@ -84,32 +84,135 @@ pub fn turns_gather<X>()
     ensures one { (n : ℕ) (files : List (Numbered X)) (a b : List X) → Gives n files a → Gives n files b → a ≡ b }
 {}
 
-/// Files that wait for their turn, each behind the number of its next record.
-type Waiting = BinaryHeap<Reverse<(u64, usize)>>;
+/// Files in a queue, each behind the number of its next record.
+type Queue = BinaryHeap<Reverse<(u64, usize)>>;
 
-/// Lets a file wait, if it has a next record.
-fn wait(waiting: &mut Waiting, heads: &[Option<u64>], file: usize) -> Result<(), AllocError>
-    requires { IsInOrder (heap_items waiting.old) }
-    ensures order { IsInOrder (heap_items waiting.new) }
-    ensures kept { (n j : ℕ) → Waits (heap_items waiting.old) n j → Waits (heap_items waiting.new) n j }
-    ensures waits { OnOk result ((n : ℕ) → Has heads.now file n → Waits (heap_items waiting.new) n file) }
+/// Returns a number such that no file in the queue has a lower one.
+fn least_queued(queue: &Queue) -> u64
+    requires { IsInOrder (heap_items queue.now) }
+    ensures { (n j : ℕ) → IsQueued (heap_items queue.now) n j → result ≤ n }
 {
-    if file < heads.len() {
-        if let Some(number) = heads[file] {
-            waiting.push(Reverse((number, file)))?;
-        }
-    }
-    Ok(())
-}
-
-/// Returns a number such that no file that waits has a lower one.
-fn least_waiting(waiting: &Waiting) -> u64
-    requires { IsInOrder (heap_items waiting.now) }
-    ensures { (n j : ℕ) → Waits (heap_items waiting.now) n j → result ≤ n }
-{
-    match waiting.peek() {
+    match queue.peek() {
         Some(Reverse((number, _))) => *number,
         None => u64::MAX,
+    }
+}
+
+/// The fewest places of a table.
+const FEWEST: usize = 1_024;
+
+/// What stands at a place where no file waits.
+const FREE: usize = usize::MAX;
+
+/// Files that wait for their turn. A file waits at the place of its next record's number in a table, or in a queue if another
+/// waits there.
+#[derive(Drop)]
+struct Waiting {
+    /// Which file waits at each place.
+    table: Vec<usize>,
+    /// Which bits of a number say its place.
+    mask: u64,
+    /// The other files.
+    queue: Queue,
+    /// No file in the queue has a lower number.
+    queued: u64,
+}
+
+impl Waiting {
+    /// None of so many files waits.
+    fn new(alloc: Global, files: usize) -> Result<Self, AllocError>
+        ensures { IfOk result AreKept }
+    {
+        let Some(count) = files.saturating_mul(4).max(FEWEST).checked_next_power_of_two() else {
+            return Err(AllocError);
+        };
+        let table = vec![in alloc; FREE; count]?;
+        Ok(Waiting {
+            table,
+            mask: (count as u64).saturating_sub(1),
+            queue: BinaryHeap::new(alloc),
+            queued: u64::MAX,
+        })
+    }
+
+    /// Returns the place of a number.
+    #[inline(always)]
+    fn place_of(&self, number: u64) -> usize
+        ensures { result ≡ place_of self.now number }
+    {
+        (number & self.mask) as usize
+    }
+
+    /// Returns the file that waits at the place of a number. It is no file if none does.
+    #[inline(always)]
+    fn at(&self, number: u64) -> usize
+        ensures { (j : ℕ) → IsPlaced self.now number j → j ≡ result }
+    {
+        let place = self.place_of(number);
+        if place < self.table.len() {
+            self.table[place]
+        } else {
+            FREE
+        }
+    }
+
+    /// Returns whether no file that waits has this number. Where this is false, one may have it.
+    #[inline(always)]
+    fn none_has(&self, heads: &[Option<u64>], number: u64) -> bool
+        requires { AreKept self.now }
+        ensures { IsTrue result → (j : ℕ) → Has heads.now j number → Waits self.now number j → ⊥ }
+    {
+        if self.queued <= number {
+            return false;
+        }
+        let file = self.at(number);
+        file >= heads.len() || heads[file] != Some(number)
+    }
+
+    /// Lets a file wait, if it has a next record.
+    #[inline(always)]
+    fn add(&mut self, heads: &[Option<u64>], file: usize) -> Result<(), AllocError>
+        requires { AreKept self.old }
+        ensures kept { AreKept self.new }
+        ensures others { (n j : ℕ) → j < length heads.now → Waits self.old n j → Waits self.new n j }
+        ensures waits { OnOk result ((n : ℕ) → Has heads.now file n → Waits self.new n file) }
+    {
+        if file < heads.len() {
+            if let Some(number) = heads[file] {
+                let place = self.place_of(number);
+                if place < self.table.len() && heads.len() <= self.table[place] {
+                    self.table[place] = file;
+                } else {
+                    self.queue.push(Reverse((number, file)))?;
+                    self.queued = least_queued(&self.queue);
+                }
+            }
+        }
+        Ok(())
+    }
+
+    /// Takes a file out: the one that has this number, if only one has. Returns a number of no file if none was taken.
+    #[inline(always)]
+    fn remove(&mut self, number: u64) -> usize
+        requires { AreKept self.old }
+        ensures kept { AreKept self.new }
+        ensures others { (n j : ℕ) → (j ≡ result → ⊥) → Waits self.old n j → Waits self.new n j }
+    {
+        if self.queued <= number {
+            let first = self.queue.pop();
+            self.queued = least_queued(&self.queue);
+            return match first {
+                Some(Reverse((_, file))) => file,
+                None => FREE,
+            };
+        }
+        let place = self.place_of(number);
+        if place >= self.table.len() {
+            return FREE;
+        }
+        let file = self.table[place];
+        self.table[place] = FREE;
+        file
     }
 }
 
@@ -120,8 +223,6 @@ pub(crate) struct Turns {
     last: usize,
     /// The other files.
     waiting: Waiting,
-    /// None of them has a lower number.
-    others: u64,
 }
 
 impl Turns {
@@ -129,16 +230,11 @@ impl Turns {
     pub(crate) fn new(alloc: Global, heads: &[Option<u64>]) -> Result<Self, AllocError>
         ensures { IfOk result (AreTurns heads.now) }
     {
-        let mut waiting = BinaryHeap::new(alloc);
+        let mut waiting = Waiting::new(alloc, heads.len())?;
         for file in 1..heads.len() {
-            wait(&mut waiting, heads, file)?;
+            waiting.add(heads, file)?;
         }
-        let others = least_waiting(&waiting);
-        Ok(Turns {
-            last: 0,
-            waiting,
-            others,
-        })
+        Ok(Turns { last: 0, waiting })
     }
 
     /// Returns whether it is the turn of the file whose record came last.
@@ -147,19 +243,19 @@ impl Turns {
         requires { AreTurns heads.now self.now }
         ensures { IsTrue result → IsTurn heads.now wanted (Turn.Of self.now.last) }
     {
-        wanted < self.others && self.last < heads.len() && heads[self.last] == Some(wanted)
+        self.waiting.none_has(heads, wanted)
+            && self.last < heads.len()
+            && heads[self.last] == Some(wanted)
     }
 
-    /// Lets the file whose record came last wait, and takes the first of all that wait in its place.
-    fn pass(&mut self, heads: &[Option<u64>]) -> Result<(), AllocError>
+    /// Lets the file whose record came last wait, and takes in its place the one that has the number that is wanted.
+    #[inline(always)]
+    fn pass(&mut self, heads: &[Option<u64>], wanted: u64) -> Result<(), AllocError>
         requires { AreTurns heads.now self.old }
         ensures { AreTurns heads.now self.new }
     {
-        wait(&mut self.waiting, heads, self.last)?;
-        if let Some(Reverse((_, file))) = self.waiting.pop() {
-            self.last = file;
-        }
-        self.others = least_waiting(&self.waiting);
+        self.waiting.add(heads, self.last)?;
+        self.last = self.waiting.remove(wanted);
         Ok(())
     }
 
@@ -169,12 +265,12 @@ impl Turns {
         ensures turn { IfOk result (λ turn. IsTurn heads.now wanted turn × IsOfLast self.new.last turn) }
         ensures kept { AreTurns heads.now self.new }
     {
-        self.pass(heads)?;
+        self.pass(heads, wanted)?;
         if self.is_of_last(heads, wanted) {
             return Ok(Turn::Of(self.last));
         }
         match next_turn(heads, wanted) {
-            // (no file is left here, since the one that was first of all had the least number)
+            // (no file is left here, since the one that has the number was taken)
             Turn::Of(_) => Err(AllocError),
             turn => Ok(turn),
         }
