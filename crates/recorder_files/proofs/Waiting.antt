@@ -1,5 +1,5 @@
 -- Files that wait for their turn.
-use Rattle.std.proofs.Common.{◌≡◌, ℕ, zero, suc, ◌<◌, ◌≤◌, ◌⊎◌, inl, inr, Bool, false, not, eqb, nat_eq, IsTrue, List, [], ◌∷◌, length, set, slice_get, Option, Some, refl, sym, ap, subst, ◌∙◌, arith, IsPermutation}
+use Rattle.std.proofs.Common.{◌≡◌, ℕ, zero, suc, ◌<◌, inl, inr, Bool, false, not, eqb, nat_eq, IsTrue, List, [], ◌∷◌, length, set, slice_get, Option, Some, refl, sym, ap, subst, ◌∙◌, arith, IsPermutation}
 use Rattle.std.specs.List.{Contains}
 use Rattle.std.specs.Option.{option_eq}
 use Rattle.std.proofs.lemmas.Bool.{eq-eqb}

@@ -1,4 +1,4 @@
-use Rattle.std.proofs.Common.{◌≡◌, ◌≤◌, ◌<◌, Some, None, inl, inr, refl, sym, subst, ◌∙◌, set, slice_get, length, vec_len, arith, rules, heap_items}
+use Rattle.std.proofs.Common.{◌≡◌, Some, None, inl, inr, refl, sym, subst, ◌∙◌, set, slice_get, length, vec_len, arith, rules, heap_items}
 use Rattle.std.proofs.lemmas.Option.{get_or_from_slice_get, slice_get_read, slice_get_within}
 use Rattle.recorder_files.specs.inner.Turns.{IsInOrder, IsQueued, place_of}
 use Rattle.recorder_files.proofs.Waiting.{placed_now, placed_on, queued_now, queued_on}

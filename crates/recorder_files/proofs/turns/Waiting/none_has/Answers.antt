@@ -1,5 +1,4 @@
-use Rattle.std.proofs.Common.{Some, None, refl, ap, not, ◌≡◌, arith}
-use Rattle.std.proofs.lemmas.Bool.{eq-eqb}
+use Rattle.std.proofs.Common.{Some, None, arith}
 use Rattle.std.proofs.lemmas.Option.{get_or_from_slice_get, slice_get_within}
 use Rattle.recorder_files.proofs.Waiting.{none_waits, other_head}
 use Rattle.recorder_files.proofs.turns.Waiting.none_has.Goals as goal

@@ -1,4 +1,4 @@
-use Rattle.std.proofs.Common.{◌≡◌, ◌<◌, Some, inl, inr, sym, ◌∙◌, slice_get, length, vec_len, arith, rules, heap_items}
+use Rattle.std.proofs.Common.{◌≡◌, Some, inl, inr, ◌∙◌, slice_get, length, vec_len, rules, heap_items}
 use Rattle.std.proofs.lemmas.Option.{slice_get_read}
 use Rattle.recorder_files.specs.inner.Turns.{place_of}
 use Rattle.recorder_files.proofs.Waiting.{others_stay, placed_on}
