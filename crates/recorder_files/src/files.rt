@@ -14,7 +14,7 @@ use std::marker::Model;
 use thiserror::Error;
 
 /// Why a file is not that of a recorder, or could not be read.
-#[derive(Clone, Copy, Debug, PartialEq, Eq, Error)]
+#[derive(Clone, Copy, Debug, Error)]
 pub enum FileFault {
     /// The line, counted from 1, at which the bytes stop being those of a recorder's file.
     #[error("line {0}: not the line of a recorder's file")]

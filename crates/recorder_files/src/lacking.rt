@@ -10,7 +10,7 @@ use crate::log_parts::LogPart;
 use std::alloc::{AllocError, Global};
 
 /// What a log lacks. Files are counted from 0.
-#[derive(Clone, Copy, Debug, PartialEq, Eq)]
+#[derive(Clone, Copy)]
 pub enum LogLack {
     /// The part that begins in this file does not go on where those in front of it end.
     Begin {

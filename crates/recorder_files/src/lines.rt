@@ -16,7 +16,7 @@ pub(crate) const HEADER: &[u8] = b"postcopy-records 1";
 const LAST_NUMBER: u32 = 4_294_967_294;
 
 /// Who writes a log: the party of one of a session's logs, or the one that describes the machine.
-#[derive(Clone, Copy, Debug, PartialEq, Eq)]
+#[derive(Clone, Copy)]
 pub enum Party {
     Machine,
     Of(LogName),
@@ -24,7 +24,7 @@ pub enum Party {
 
 /// The party whose log a process writes, the number of the process's first record, and the number of the file in which
 /// it began.
-#[derive(Clone, Copy, Debug, PartialEq, Eq)]
+#[derive(Clone, Copy)]
 pub struct Opening {
     pub party: Party,
     pub first: u32,
@@ -32,7 +32,7 @@ pub struct Opening {
 }
 
 /// How a process left a log.
-#[derive(Clone, Copy, Debug, PartialEq, Eq)]
+#[derive(Clone, Copy)]
 pub enum Last {
     /// It closed the log after this many records.
     End(u32),

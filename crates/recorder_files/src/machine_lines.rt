@@ -21,7 +21,7 @@ const PAGE_KEY: &[u8] = b"page ";
 const CELL: usize = 16;
 
 /// What is told of a machine as a whole.
-#[derive(Clone, Copy, Debug, PartialEq, Eq)]
+#[derive(Clone, Copy)]
 pub struct Outline {
     /// How many pages it has.
     pub pages: u64,

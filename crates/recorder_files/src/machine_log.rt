@@ -23,7 +23,7 @@ pub struct MachineEntry {
 }
 
 /// Why a file is not one of the machine's log, or was not read.
-#[derive(Clone, Copy, Debug, PartialEq, Eq, Error)]
+#[derive(Clone, Copy, Debug, Error)]
 pub enum MachineLogFault {
     /// What is wrong with the file.
     #[error("{0}")]

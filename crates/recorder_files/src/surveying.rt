@@ -11,7 +11,7 @@ use std::alloc::AllocError;
 use std::io::Read;
 
 /// What a file says of its log, but for its records' texts.
-#[derive(Clone, Copy, Debug, PartialEq, Eq)]
+#[derive(Clone, Copy)]
 pub struct Surveyed {
     /// Which process wrote it, among the processes of all folders.
     pub process: usize,

@@ -17,7 +17,7 @@ use text_lines::FaultKind;
 use thiserror::Error;
 
 /// Why files are no log of a party's records.
-#[derive(Clone, Copy, Debug, PartialEq, Eq, Error)]
+#[derive(Clone, Copy, Debug, Error)]
 pub enum LogFault {
     /// What keeps the files from being those of a log.
     #[error("{0}")]
@@ -31,7 +31,7 @@ pub enum LogFault {
 }
 
 /// Why a taker does not take a record.
-#[derive(Clone, Copy, Debug, PartialEq, Eq)]
+#[derive(Clone, Copy)]
 pub enum TakeRefusal {
     /// The record is not for it.
     Unfit,
@@ -40,7 +40,7 @@ pub enum TakeRefusal {
 }
 
 /// Why the records of a log were not taken.
-#[derive(Clone, Copy, Debug, PartialEq, Eq)]
+#[derive(Clone, Copy)]
 pub enum TakingFault {
     /// What is wrong with the log.
     Log(LogFault),

@@ -11,7 +11,7 @@ use std::cmp::Reverse;
 use std::collections::BinaryHeap;
 
 /// The file whose turn it is.
-#[derive(Clone, Copy, Debug, PartialEq, Eq)]
+#[derive(Clone, Copy)]
 pub enum Turn {
     /// This file alone.
     Of(usize),
@@ -123,7 +123,11 @@ impl Waiting {
     fn new(alloc: Global, files: usize) -> Result<Self, AllocError>
         ensures { IfOk result AreKept }
     {
-        let Some(count) = files.saturating_mul(4).max(FEWEST).checked_next_power_of_two() else {
+        let Some(count) = files
+            .saturating_mul(4)
+            .max(FEWEST)
+            .checked_next_power_of_two()
+        else {
             return Err(AllocError);
         };
         let table = vec![in alloc; FREE; count]?;

@@ -39,7 +39,7 @@ pub trait LogFiles {
 }
 
 /// Why the logs of a recording are not gone through.
-#[derive(Clone, Copy, Debug, PartialEq, Eq, Error)]
+#[derive(Clone, Copy, Debug, Error)]
 pub enum WalkFault {
     /// What is wrong with this log.
     #[error("{1}")]
