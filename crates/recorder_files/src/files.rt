@@ -41,12 +41,12 @@ pub struct FileReader<R: Read + Drop> {
     buffer: Vec<u8>,
     start: usize,
     end: usize,
-    name: Vec<u8>,
-    opening: Opening,
-    low: u64,
-    line: u64,
     text: usize,
     text_end: usize,
+    low: u64,
+    line: u64,
+    name: Vec<u8>,
+    opening: Opening,
     last: Option<Last>,
 }
 
