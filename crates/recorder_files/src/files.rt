@@ -32,7 +32,7 @@ pub enum FileFault {
 }
 
 /// The most bytes of one read.
-const PIECE: usize = 16_384;
+const PIECE: usize = 8_704;
 
 /// Reads a file record by record. Contracts see the state of the reader.
 #[derive(Drop)]
