@@ -1,18 +1,16 @@
 //! Running what is asked for: an arm for each command.
 
-ghost use Rattle.std.specs.Prelude.{◌≡◌, ◌≢◌, ◌⊎◌, ◌<◌, Ok, true, false, IfOk, MatchOption};
+ghost use Rattle.std.specs.Prelude.{◌≡◌, ◌≢◌, ◌<◌, Ok, true, false, IfOk, MatchOption};
 ghost use Rattle.command_words.specs.Table.{asked_names};
-ghost use Rattle.command_texts.specs.Answers.{IsTextFault};
-ghost use Rattle.command_texts.specs.Told.{AreNamed, Ends, IsNamed, NoSession};
 ghost use Rattle.text_access.specs.Names.{files_of};
 ghost use Rattle.text_access.specs.Written.{BothGain};
 ghost use Rattle.session_commands.specs.Windows.{EndsWindow, HasWindowLines};
-ghost use Rattle.commands.specs.Told.{EndsAsked, FirstHas, HasLines, IsBesideOne, IsBesideTwo, IsOneAnswer, IsTwoAnswer, window_of};
+ghost use Rattle.commands.specs.Told.{EndsAsked, HasLines, window_of};
 
 use crate::drawing::{DrawAlongCommand, DrawCommand};
 use crate::judging::{ask_of, extent_of, story_form};
 use command_texts::{Console, Fault, perform_one, perform_two};
-use command_words::{Checks, Explains, Job, OneText, Pages, Request, TwoTexts};
+use command_words::{Job, Pages, Request, TwoTexts};
 use host_commands::{perform_migrate, perform_steps};
 use judge_commands::{AuditCommand, CheckCommand, ExplainByTable, ReplayCommand};
 use migration_types::Topic;
@@ -24,67 +22,6 @@ use std::thread::Threads;
 use text_access::TextSource;
 use windows::Window;
 
-// Runs a command on the text under a name.
-fn asked_one<'a, R: Threads + Sync, S: TextSource, I: Read + Send, O: Write, E: Write>(
-    console: &mut Console<'_, R, S, I, O, E>,
-    task: OneText,
-    name: &'a str,
-) -> Result<u8, Fault<'a>>
-where
-    S::Text: Send,
-    ensures few { IfOk result (λ status. status < 2) }
-    ensures told { Ends (IsTextFault (λ n. n ≡ name.entry.now)) (IsNamed name.entry.now (files_of (S.bytes_of console.old.texts.now) (S.names_in console.old.texts.now)) (S.text_in console.old.texts.now) (I.remaining console.old.input)) (IsOneAnswer task) (IsBesideOne task name.entry.now) (O.contents console.old.output, E.contents console.old.errors) (O.contents console.new.output, E.contents console.new.errors) result }
-    ensures gains { BothGain (O.contents console.old.output, E.contents console.old.errors) (O.contents console.new.output, E.contents console.new.errors) }
-{
-    let command = AuditCommand {
-        rt: console.rt,
-        ask: ask_of(task),
-    };
-    perform_one(console, &command, name)
-}
-
-// Checks the texts under two names, which are read in this order.
-fn asked_check<'a, R: Threads + Sync, S: TextSource, I: Read + Send, O: Write, E: Write>(
-    console: &mut Console<'_, R, S, I, O, E>,
-    checks: Checks,
-    first: &'a str,
-    second: &'a str,
-) -> Result<u8, Fault<'a>>
-where
-    S::Text: Send,
-    ensures few { IfOk result (λ status. status < 2) }
-    ensures told { Ends (IsTextFault (λ n. (n ≡ first.entry.now) ⊎ (n ≡ second.entry.now))) (AreNamed first.entry.now second.entry.now (files_of (S.bytes_of console.old.texts.now) (S.names_in console.old.texts.now)) (S.text_in console.old.texts.now) NoSession (I.remaining console.old.input)) (IsTwoAnswer (TwoTexts.Check checks)) (IsBesideTwo (TwoTexts.Check checks) first.entry.now second.entry.now) (O.contents console.old.output, E.contents console.old.errors) (O.contents console.new.output, E.contents console.new.errors) result }
-    ensures gains { BothGain (O.contents console.old.output, E.contents console.old.errors) (O.contents console.new.output, E.contents console.new.errors) }
-{
-    let command = CheckCommand {
-        rt: console.rt,
-        form: checks.form,
-        complete: extent_of(checks.demand),
-    };
-    perform_two(console, &command, first, second)
-}
-
-// Explains the session under a name by the table under a second one. They are read in this order.
-fn asked_explain<'a, R: Threads + Sync, S: TextSource, I: Read + Send, O: Write, E: Write>(
-    console: &mut Console<'_, R, S, I, O, E>,
-    explains: Explains,
-    first: &'a str,
-    second: &'a str,
-) -> Result<u8, Fault<'a>>
-where
-    S::Text: Send,
-    ensures few { IfOk result (λ status. status < 2) }
-    ensures told { Ends (IsTextFault (λ n. (n ≡ first.entry.now) ⊎ (n ≡ second.entry.now))) (AreNamed first.entry.now second.entry.now (files_of (S.bytes_of console.old.texts.now) (S.names_in console.old.texts.now)) (S.text_in console.old.texts.now) NoSession (I.remaining console.old.input)) (IsTwoAnswer (TwoTexts.Explain explains)) (IsBesideTwo (TwoTexts.Explain explains) first.entry.now second.entry.now) (O.contents console.old.output, E.contents console.old.errors) (O.contents console.new.output, E.contents console.new.errors) result }
-    ensures gains { BothGain (O.contents console.old.output, E.contents console.old.errors) (O.contents console.new.output, E.contents console.new.errors) }
-{
-    let command = ExplainByTable {
-        rt: console.rt,
-        story: story_form(explains.form),
-        complete: extent_of(explains.demand),
-    };
-    perform_two(console, &command, first, second)
-}
-
 // Runs a command on the texts under two names, which are read in this order.
 fn asked_two<'a, R: Threads + Sync, S: TextSource, I: Read + Send, O: Write, E: Write>(
     console: &mut Console<'_, R, S, I, O, E>,
@@ -95,15 +32,29 @@ fn asked_two<'a, R: Threads + Sync, S: TextSource, I: Read + Send, O: Write, E: 
 where
     S::Text: Send,
     ensures few { IfOk result (λ status. status < 2) }
-    ensures told { Ends (IsTextFault (λ n. (n ≡ first.entry.now) ⊎ (n ≡ second.entry.now))) (AreNamed first.entry.now second.entry.now (files_of (S.bytes_of console.old.texts.now) (S.names_in console.old.texts.now)) (FirstHas task (S.text_in console.old.texts.now)) NoSession (I.remaining console.old.input)) (IsTwoAnswer task) (IsBesideTwo task first.entry.now second.entry.now) (O.contents console.old.output, E.contents console.old.errors) (O.contents console.new.output, E.contents console.new.errors) result }
+    ensures told { EndsAsked (asked_names (Request.Two task first.entry second.entry)) (files_of (S.bytes_of console.old.texts.now) (S.names_in console.old.texts.now)) (S.text_in console.old.texts.now) (I.remaining console.old.input) (O.contents console.old.output, E.contents console.old.errors) (O.contents console.new.output, E.contents console.new.errors) result }
     ensures gains { BothGain (O.contents console.old.output, E.contents console.old.errors) (O.contents console.new.output, E.contents console.new.errors) }
 {
     let rt = console.rt;
     match task {
-        TwoTexts::Check(checks) => asked_check(console, checks, first, second),
+        TwoTexts::Check(checks) => {
+            let command = CheckCommand {
+                rt,
+                form: checks.form,
+                complete: extent_of(checks.demand),
+            };
+            perform_two(console, &command, first, second)
+        }
         TwoTexts::Replay => perform_two(console, &ReplayCommand { rt }, first, second),
         TwoTexts::Steps => perform_steps(console, first, second),
-        TwoTexts::Explain(explains) => asked_explain(console, explains, first, second),
+        TwoTexts::Explain(explains) => {
+            let command = ExplainByTable {
+                rt,
+                story: story_form(explains.form),
+                complete: extent_of(explains.demand),
+            };
+            perform_two(console, &command, first, second)
+        }
     }
 }
 
@@ -174,7 +125,13 @@ where
     ensures gains { BothGain (O.contents console.old.output, E.contents console.old.errors) (O.contents console.new.output, E.contents console.new.errors) }
 {
     match job {
-        Request::One(task, name) => asked_one(console, task, name),
+        Request::One(task, name) => {
+            let command = AuditCommand {
+                rt: console.rt,
+                ask: ask_of(task),
+            };
+            perform_one(console, &command, name)
+        }
         Request::Two(task, first, second) => asked_two(console, task, first, second),
         Request::Migrate(carrier, name) => perform_migrate(console, carrier, name),
         Request::Draw(topic, name, further) => asked_draw(console, topic, name, further),

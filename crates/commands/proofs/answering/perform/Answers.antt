@@ -2,7 +2,7 @@ use Rattle.commands.proofs.Lined.{window_lines}
 use Rattle.commands.proofs.answering.perform.Goals as goal
 
 pub returns-in-One-clause-told : goal.returns-in-One-clause-told
-returns-in-One-clause-told g c = rw c.in-One.is c.asked_one.ensures.told
+returns-in-One-clause-told g c = rw c.in-One.is (rw c.ask_of.ensures at c.perform_one.ensures.told)
 
 pub returns-in-Two-clause-told : goal.returns-in-Two-clause-told
 returns-in-Two-clause-told g c = rw c.in-Two.is c.asked_two.ensures.told
