@@ -114,9 +114,9 @@ def test_source_that_gives_pages_up(states):
 
 
 def answer(listener):
-    """Answers as a QEMU's monitor: greets each that connects, one after another, and says that the guest runs."""
-    while True:
-        with listener.accept()[0] as connection, contextlib.suppress(OSError):  # who only asks whose socket it is, goes
+    """Answers as a QEMU's monitor, until the listener is closed: greets each that connects, one after another, and says that the guest runs."""
+    while listener.fileno() >= 0:
+        with contextlib.suppress(OSError), listener.accept()[0] as connection:  # who only asks whose socket it is, goes
             connection.sendall(b'{"QMP": {}}\n')
             while connection.recv(1 << 16):
                 connection.sendall(b'{"return": {"running": true}}\n')

@@ -198,7 +198,9 @@ class _Log:
             if not part.word:
                 yield f"{self.name}: {part.path} has no end: its process died, or did not close the log (postcopy_log_close, or Log.close)"
             elif part.word == "lost":
-                yield f"{self.name}: {part.where}: a record was not written: {os.strerror(part.error)}"
+                # (the system's word for no error is 'Success')
+                why = os.strerror(part.error) if part.error else "Unknown error 0"
+                yield f"{self.name}: {part.where}: a record was not written: {why}"
             elif part.word == "next" and all(it.first != part.count for it in parts[place + 1:]):
                 yield f"{self.name}: {part.where}: handed over with {part.count} records, and there is no file of who went on"
             at = max(at, part.count)
