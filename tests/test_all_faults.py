@@ -7,6 +7,7 @@ a fault, as in test_pages_apart.py. Of another it writes the first line alone.
 `explain --page` has to name the faulty record of the page just where it has one, and `explain --line` the record at the line. Where a page
 has several faults, `explain --page` has to list them by reason, and so does its object, of each page.
 """
+import functools
 import re
 import json
 import os
@@ -39,6 +40,7 @@ class Tests:
     def __init__(self, program):
         self.program, self.most, self.reasons = program, 0, set()
 
+    @functools.lru_cache(maxsize=64)
     def says(self, text, *words):
         ran = subprocess.run([self.program, *words, "-"], input=text.encode("latin-1"), capture_output=True)
         return ran.stdout.decode("latin-1"), ran.returncode

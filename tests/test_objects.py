@@ -131,10 +131,15 @@ class Tests:
     def __init__(self, program, room):
         self.program, self.room = program, room
         self.seen, self.roles, self.reasons, self.causes = set(), set(), set(), set()
+        self.texts, self.known = {}, {}
 
     def ran(self, *words):
-        child = subprocess.run([self.program, *words], cwd=self.room, stdin=subprocess.DEVNULL, capture_output=True)
-        return child.returncode, child.stdout, child.stderr
+        """What the program answers, which it is asked once of the same texts."""
+        asked = words, *map(self.texts.get, words)
+        if asked not in self.known:
+            child = subprocess.run([self.program, *words], cwd=self.room, stdin=subprocess.DEVNULL, capture_output=True)
+            self.known[asked] = child.returncode, child.stdout, child.stderr
+        return self.known[asked]
 
     def one(self, what, words, session_bytes):
         """The object of an answer, and its first line alone."""
@@ -247,6 +252,7 @@ class Tests:
                 self.same(f"the name of {record} of {what}", f"line {line} ({log} {n})" in told.replace("\nLine ", "\nline "), True)
 
     def write(self, name, text):
+        self.texts[name] = text
         with open(f"{self.room}/{name}", "wb") as file:
             file.write(text)
 
