@@ -76,7 +76,7 @@ def without_modules(machine):
 @pytest.mark.parametrize("source", ("clone", "archive"))
 def test_fresh_machine(root, sources, source, user, pytestconfig):
     is_all = pytestconfig.getoption("--all")
-    quick, workers = ("tests/quick", "2") if is_all else (FIRST_CASES, "1") if (source, user) == ("archive", SOMEBODY) else (FEW, "1")
+    quick, workers = ("tests/quick", "2") if is_all else (FIRST_CASES, "0") if (source, user) == ("archive", SOMEBODY) else (FEW, "1")
     blocks = [(command, shown) for command, shown, _ in commands_of(read("README.md")) if command not in NOT_RUN]
 
     def machine(*commands):
