@@ -202,11 +202,7 @@ pub fn make_wide<R: Threads + Sync>(rt: &R, refuser: Refuser) -> Option<()> {
 }
 
 /// Makes the calls of a report.
-pub fn make_report<R: Threads + Sync>(
-    rt: &R,
-    refuser: Refuser,
-    examples: &Examples,
-) -> Option<()> {
+pub fn make_report<R: Threads + Sync>(rt: &R, refuser: Refuser, examples: &Examples) -> Option<()> {
     let session = examples.session("early-access/session")?;
     let told = examples.text("early-access/stdout")?;
     audited(rt, refuser, &session, told.as_slice())
