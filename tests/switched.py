@@ -2,7 +2,7 @@
 
 Each function that a body changes has all its wrong bodies beside the right one, and asks `crate::is_planted` by their numbers which of
 them runs. That compares with the number of no body, so the program is right, and `plant` writes a copy of its code that compares with another
-number. So one program, compiled once and without optimization, has as many wrong bodies as there are.
+number. So one program, compiled once and with no call inlined, has as many wrong bodies as there are.
 """
 import os
 import re
