@@ -9,10 +9,10 @@ ghost use Rattle.story_words.specs.Writing.{Adds, IsBehind};
 
 pub(crate) mod clean;
 mod contents;
-mod faults;
-mod knots;
-mod lacks;
-mod pages;
+pub(crate) mod faults;
+pub(crate) mod knots;
+pub(crate) mod lacks;
+pub(crate) mod pages;
 mod records;
 mod shapes;
 
@@ -113,17 +113,18 @@ impl<L: Lines> Teller<'_, L> {
         out.push_str(".")
     }
 
-    /// Appends words and the guest's record of this number, as a sentence, or if there is none, the sentence that says
+    /// Appends words and the record of this number in a log, as a sentence, or if there is none, the sentence that says
     /// so.
-    pub(crate) fn push_with_guest_or(
+    pub(crate) fn push_with_record_or(
         &self,
         out: &mut String,
-        words: [&str; 2],
+        words: &str,
+        none: &str,
+        log: LogName,
         place: Option<u32>,
     ) -> Result<(), AllocError> {
-        let [some, none] = words;
         match place {
-            Some(place) => self.push_with_record(out, some, (LogName::Guest, place)),
+            Some(place) => self.push_with_record(out, words, (log, place)),
             None => out.push_str(none),
         }
     }

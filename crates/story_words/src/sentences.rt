@@ -1,6 +1,6 @@
 //! The sentences of stories: which there are, what each is about, and its words in English.
 
-use crate::english::{Teller, clean};
+use crate::english::{Teller, clean, faults, knots, lacks, pages};
 use audit_model::PageReason;
 use audit_report::Lines;
 use migration_types::{LogName, PageNo};
@@ -246,86 +246,102 @@ impl<L: Lines> Teller<'_, L> {
         out: &mut String,
         sentence: &Sentence,
     ) -> Result<(), AllocError> {
-        match sentence {
-            Sentence::Wrong(_)
-            | Sentence::GoesWrong { .. }
-            | Sentence::Keeps { .. }
-            | Sentence::Unexplained(_)
-            | Sentence::AtSource
-            | Sentence::Shows(_)
-            | Sentence::OneMachine(_)
-            | Sentence::NotThere
-            | Sentence::Unreached(_)
-            | Sentence::FurthestLook(_)
-            | Sentence::LateForUse(_)
-            | Sentence::LateForRelease(_)
-            | Sentence::ReleasedFirst(_)
-            | Sentence::MayComeAfter(_)
-            | Sentence::RightOrder => self.push_on_fault(out, sentence),
-            Sentence::Contents { .. }
-            | Sentence::SentWith { .. }
-            | Sentence::ReleasedAtHalt
-            | Sentence::NotReleasedAtHalt
-            | Sentence::ChangedLast(_)
-            | Sentence::PlacedBefore(_)
-            | Sentence::EveryOrder(_)
-            | Sentence::ShownOrder(_)
-            | Sentence::Apart(_)
-            | Sentence::MoreFaulty(_)
-            | Sentence::Faults { .. }
-            | Sentence::FaultsFor { .. } => self.push_on_faults(out, sentence),
-            Sentence::Misshapen(_)
-            | Sentence::OutOfPhase { .. }
-            | Sentence::Names { .. }
-            | Sentence::Begins(_)
-            | Sentence::SentBefore(_)
-            | Sentence::ResumedToo(_)
-            | Sentence::FirstAccess(_)
-            | Sentence::NoOrder
-            | Sentence::Waits { .. } => self.push_on_shape(out, sentence),
-            Sentence::StoryOf(_)
-            | Sentence::Change { .. }
-            | Sentence::Halt(_)
-            | Sentence::Sending(_)
-            | Sentence::Delivery { .. }
-            | Sentence::Taking(_)
-            | Sentence::Placement(_)
-            | Sentence::SecondPlacement(_)
-            | Sentence::FirstLook(_)
-            | Sentence::FirstUse { .. }
-            | Sentence::NoPage { .. }
-            | Sentence::Verdict { .. }
-            | Sentence::NoRecord(_)
-            | Sentence::Stands(_) => self.push_about_page(out, sentence),
-            Sentence::Clean
-            | Sentence::SentPages(_)
-            | Sentence::ZeroedPages(_)
-            | Sentence::UnplacedPages(_)
-            | Sentence::FreshPages(_)
-            | Sentence::OtherPages(_)
-            | Sentence::ReleasedPages(_)
-            | Sentence::LeftPages(_)
-            | Sentence::UsedPages(_)
-            | Sentence::Reads(_)
-            | Sentence::Sendings { .. }
-            | Sentence::Repeats(_)
-            | Sentence::UndeliveredPackets(_)
-            | Sentence::LanePackets(_)
-            | Sentence::DroppedPackets(_)
-            | Sentence::Requests { .. }
-            | Sentence::Misses { .. } => clean::push_words(out, sentence),
-            Sentence::NotWhole
-            | Sentence::Owed(_)
-            | Sentence::CameTo(_)
-            | Sentence::NeverHalted
-            | Sentence::NeverResumed
-            | Sentence::HaltedAt(_)
-            | Sentence::Returned
-            | Sentence::StartedAgainAt(_)
-            | Sentence::NeverSaid
-            | Sentence::NeverLearned
-            | Sentence::SaidAt(_)
-            | Sentence::Untaken(_) => self.push_on_lack(out, sentence),
+        match *sentence {
+            Sentence::Wrong(name) => self.push_wrong(out, name),
+            Sentence::GoesWrong { page, kind, name } => {
+                self.push_goes_wrong(out, page, kind, name)
+            }
+            Sentence::Keeps { read, since } => self.push_keeps(out, read, since),
+            Sentence::Unexplained(page) => faults::push_unexplained(out, page),
+            Sentence::AtSource => out.push_str(faults::AT_SOURCE),
+            Sentence::Shows(name) => self.push_with_record(out, "It shows at ", name),
+            Sentence::OneMachine(held) => self.push_one_machine(out, held),
+            Sentence::NotThere => out.push_str(faults::NOT_THERE),
+            Sentence::Unreached(place) => self.push_unreached(out, place),
+            Sentence::FurthestLook(look) => self.push_furthest(out, look),
+            Sentence::LateForUse(look) => self.push_late(out, faults::LATE_FOR_USE, look),
+            Sentence::LateForRelease(look) => self.push_late(out, faults::LATE_FOR_RELEASE, look),
+            Sentence::ReleasedFirst(place) => self.push_released_first(out, place),
+            Sentence::MayComeAfter(place) => self.push_may_come_after(out, place),
+            Sentence::RightOrder => out.push_str(faults::RIGHT_ORDER),
+            Sentence::Contents {
+                name,
+                value,
+                at_halt,
+            } => self.push_contents(out, name, value, at_halt),
+            Sentence::SentWith {
+                got,
+                value,
+                sending,
+            } => self.push_sent_with(out, got, value, sending),
+            Sentence::ReleasedAtHalt => out.push_str(faults::RELEASED_AT_HALT),
+            Sentence::NotReleasedAtHalt => out.push_str(faults::NOT_RELEASED_AT_HALT),
+            Sentence::ChangedLast(place) => self.push_changed_last(out, place),
+            Sentence::PlacedBefore(place) => self.push_placed_before(out, place),
+            Sentence::EveryOrder(reason) => out.push_str(faults::in_every_order(reason)),
+            Sentence::ShownOrder(reason) => out.push_str(faults::in_shown_order(reason)),
+            Sentence::Apart(page) => faults::push_apart(out, page),
+            Sentence::MoreFaulty(more) => faults::push_more(out, more),
+            Sentence::Faults { page, count } => faults::push_in_all(out, page, count),
+            Sentence::FaultsFor {
+                reason,
+                count,
+                first,
+            } => self.push_kind(out, reason, count, first),
+            Sentence::Misshapen(name) => self.push_misshapen(out, name),
+            Sentence::OutOfPhase { place, handover } => self.push_phase(out, place, handover),
+            Sentence::Names { name, named } => self.push_names(out, name, named),
+            Sentence::Begins(name) => out.push_str(self.beginning(name)),
+            Sentence::SentBefore(place) => self.push_sent_before(out, place),
+            Sentence::ResumedToo(place) => self.push_resumed_too(out, place),
+            Sentence::FirstAccess(place) => self.push_first_access(out, place),
+            Sentence::NoOrder => out.push_str(knots::NO_ORDER),
+            Sentence::Waits { waiting, next } => self.push_waits(out, &waiting, next),
+            Sentence::StoryOf(page) => pages::push_heading(out, page),
+            Sentence::Change { halted, place } => self.push_change(out, halted, place),
+            Sentence::Halt(place) => self.push_halt(out, place),
+            Sentence::Sending(place) => self.push_sending(out, place),
+            Sentence::Delivery { log, place } => self.push_delivery(out, log, place),
+            Sentence::Taking(place) => self.push_taking(out, place),
+            Sentence::Placement(place) => self.push_placement(out, place),
+            Sentence::SecondPlacement(place) => self.push_second_placement(out, place),
+            Sentence::FirstLook(place) => self.push_first_look(out, place),
+            Sentence::FirstUse { releases, place } => self.push_first_use(out, releases, place),
+            Sentence::Clean => out.push_str(clean::CLEAN),
+            Sentence::SentPages(n) => clean::push_sent(out, n),
+            Sentence::ZeroedPages(n) => clean::push_zeroed(out, n),
+            Sentence::UnplacedPages(n) => clean::push_unplaced(out, n),
+            Sentence::FreshPages(n) => clean::push_fresh(out, n),
+            Sentence::OtherPages(n) => clean::push_other(out, n),
+            Sentence::ReleasedPages(n) => clean::push_released(out, n),
+            Sentence::LeftPages(n) => clean::push_left(out, n),
+            Sentence::UsedPages(n) => clean::push_used(out, n),
+            Sentence::Reads(n) => clean::push_reads(out, n),
+            Sentence::Sendings { sends, pushes } => clean::push_sendings(out, sends, pushes),
+            Sentence::Repeats(n) => clean::push_repeats(out, n),
+            Sentence::UndeliveredPackets(n) => clean::push_undelivered(out, n),
+            Sentence::LanePackets(n) => clean::push_by_lane(out, n),
+            Sentence::DroppedPackets(n) => clean::push_dropped(out, n),
+            Sentence::Requests { requests, unheard } => {
+                clean::push_requests(out, requests, unheard)
+            }
+            Sentence::Misses { misses, waits } => clean::push_misses(out, misses, waits),
+            Sentence::NoPage { number, pages } => pages::push_no_page(out, number, pages),
+            Sentence::Verdict { page, is_faulty } => pages::push_verdict(out, page, is_faulty),
+            Sentence::NoRecord(line) => self.push_no_record(out, line),
+            Sentence::Stands(name) => self.push_stands(out, name),
+            Sentence::NotWhole => out.push_str(lacks::NOT_WHOLE),
+            Sentence::Owed(page) => lacks::push_owed(out, page),
+            Sentence::CameTo(name) => self.push_came_to(out, name),
+            Sentence::NeverHalted => out.push_str(lacks::NEVER_HALTED),
+            Sentence::NeverResumed => out.push_str(lacks::NEVER_RESUMED),
+            Sentence::HaltedAt(place) => self.push_halted_at(out, place),
+            Sentence::Returned => out.push_str(lacks::RETURNED),
+            Sentence::StartedAgainAt(place) => self.push_started_again_at(out, place),
+            Sentence::NeverSaid => out.push_str(lacks::NEVER_SAID),
+            Sentence::NeverLearned => out.push_str(lacks::NEVER_LEARNED),
+            Sentence::SaidAt(place) => self.push_said_at(out, place),
+            Sentence::Untaken(place) => self.push_untaken(out, place),
         }
     }
 }

@@ -14,7 +14,7 @@ fn push_value(out: &mut String, value: u64) -> Result<(), AllocError> {
 impl<L: Lines> Teller<'_, L> {
     /// Appends since when a cell has had its value.
     fn push_since(&self, out: &mut String, by: Option<u32>) -> Result<(), AllocError> {
-        self.push_with_guest_or(out, ["since ", "as at the start."], by)
+        self.push_with_record_or(out, "since ", "as at the start.", LogName::Guest, by)
     }
 
     /// Appends what one machine that never moved has instead of what a read gives.

@@ -1,64 +1,31 @@
 //! The sentences about a page's fault, in words.
 
 use super::Teller;
-use super::pages::push_on_page;
-use crate::sentences::Sentence;
 use audit_model::PageReason;
 use audit_report::Lines;
 use migration_types::{GuestRec, LogName, PageNo, PagerRec};
 use session_story::{CauseKind, Name, log_of};
 use std::alloc::AllocError;
 
-const AT_SOURCE: &str = "The guest is at the source by then: the migration has no part in it.";
+pub(crate) const AT_SOURCE: &str =
+    "The guest is at the source by then: the migration has no part in it.";
 
-const NOT_THERE: &str = "The guest is at the target by then, and the page is never placed there.";
+pub(crate) const NOT_THERE: &str =
+    "The guest is at the target by then, and the page is never placed there.";
 
-const LATE_FOR_USE: [&str; 2] = [
-    "The first look that reaches it comes after the use: ",
-    "No look reaches it at all.",
-];
+pub(crate) const LATE_FOR_USE: &str = "The first look that reaches it comes after the use: ";
 
-const LATE_FOR_RELEASE: [&str; 2] = [
-    "The first look that reaches it comes after the release: ",
-    "No look reaches it at all.",
-];
+pub(crate) const LATE_FOR_RELEASE: &str =
+    "The first look that reaches it comes after the release: ";
 
-const RIGHT_ORDER: &str =
+pub(crate) const RIGHT_ORDER: &str =
     "It would be right if the guest looked at this placement before the release, or if there were no placement: the pager skips a page that was released there first.";
 
-const RELEASED_AT_HALT: &str =
+pub(crate) const RELEASED_AT_HALT: &str =
     "The page is released at the halt, so it is not sent: the pager places it as zeros.";
 
-const NOT_RELEASED_AT_HALT: &str =
+pub(crate) const NOT_RELEASED_AT_HALT: &str =
     "The page is not released at the halt, so it must not be placed as zeros.";
-
-const UNEXPLAINED: [&str; 2] = [
-    "No record explains what page ",
-    " has: somebody writes to it who records nothing, or memory is damaged.",
-];
-
-const APART: [&str; 2] = [
-    "Apart from that, page ",
-    " goes wrong too. No record of wrong shape is about it.",
-];
-
-const UNREACHED: &str =
-    "The guest is at the target by then, and no look before this use reaches the placement of the page, ";
-
-const FURTHEST: [&str; 2] = [
-    "Of the looks before it, this one reaches furthest: ",
-    "The guest looks at no placement before it.",
-];
-
-const RELEASED_FIRST: &str =
-    "The first use of the page at the target is a release, which makes it zeros there: ";
-
-const CHANGED_LAST: [&str; 2] = [
-    "Its last change before the halt is ",
-    "The guest neither writes nor releases it before the halt.",
-];
-
-const PLACED_BEFORE: &str = "A page is placed once, and this one was placed before: ";
 
 /// Returns the words that say that every order of the records shows a fault.
 pub(crate) fn in_every_order(reason: PageReason) -> &'static str {
@@ -96,6 +63,24 @@ fn how_it_goes_wrong(kind: CauseKind) -> &'static str {
     }
 }
 
+/// Appends that no record explains what a page has.
+pub(crate) fn push_unexplained(out: &mut String, page: PageNo) -> Result<(), AllocError> {
+    let page = page.number();
+    write!(
+        out,
+        "No record explains what page {page} has: somebody writes to it who records nothing, or memory is damaged."
+    )
+}
+
+/// Appends that a page that misshapen records do not touch has a fault too.
+pub(crate) fn push_apart(out: &mut String, page: PageNo) -> Result<(), AllocError> {
+    let page = page.number();
+    write!(
+        out,
+        "Apart from that, page {page} goes wrong too. No record of wrong shape is about it."
+    )
+}
+
 /// Appends how many other pages have a fault.
 pub(crate) fn push_more(out: &mut String, more: usize) -> Result<(), AllocError> {
     if more == 1 {
@@ -129,77 +114,6 @@ fn what_is_wrong(reason: PageReason) -> &'static str {
 }
 
 impl<L: Lines> Teller<'_, L> {
-    /// Appends a sentence about what a record finds.
-    pub(crate) fn push_on_fault(
-        &self,
-        out: &mut String,
-        sentence: &Sentence,
-    ) -> Result<(), AllocError> {
-        match *sentence {
-            Sentence::Wrong(name) => self.push_of_record(out, " is wrong", name),
-            Sentence::GoesWrong { page, kind, name } => {
-                self.push_goes_wrong(out, page, kind, name)
-            }
-            Sentence::Keeps { read, since } => self.push_keeps(out, read, since),
-            Sentence::Unexplained(page) => push_on_page(out, UNEXPLAINED, page),
-            Sentence::AtSource => out.push_str(AT_SOURCE),
-            Sentence::Shows(name) => self.push_with_record(out, "It shows at ", name),
-            Sentence::OneMachine(held) => self.push_one_machine(out, held),
-            Sentence::NotThere => out.push_str(NOT_THERE),
-            Sentence::Unreached(place) => {
-                self.push_with_place(out, UNREACHED, (LogName::Pager, place))
-            }
-            Sentence::FurthestLook(look) => self.push_with_guest_or(out, FURTHEST, look),
-            Sentence::LateForUse(look) => self.push_with_guest_or(out, LATE_FOR_USE, look),
-            Sentence::LateForRelease(look) => {
-                self.push_with_guest_or(out, LATE_FOR_RELEASE, look)
-            }
-            Sentence::ReleasedFirst(place) => {
-                self.push_with_record(out, RELEASED_FIRST, (LogName::Guest, place))
-            }
-            Sentence::MayComeAfter(place) => self.push_may_come_after(out, place),
-            Sentence::RightOrder => out.push_str(RIGHT_ORDER),
-            _ => Ok(()),
-        }
-    }
-
-    /// Appends a sentence about contents, placements and orders, or about how many faults there are.
-    pub(crate) fn push_on_faults(
-        &self,
-        out: &mut String,
-        sentence: &Sentence,
-    ) -> Result<(), AllocError> {
-        match *sentence {
-            Sentence::Contents {
-                name,
-                value,
-                at_halt,
-            } => self.push_contents(out, name, value, at_halt),
-            Sentence::SentWith {
-                got,
-                value,
-                sending,
-            } => self.push_sent_with(out, got, value, sending),
-            Sentence::ReleasedAtHalt => out.push_str(RELEASED_AT_HALT),
-            Sentence::NotReleasedAtHalt => out.push_str(NOT_RELEASED_AT_HALT),
-            Sentence::ChangedLast(place) => { self.push_with_guest_or(out, CHANGED_LAST, place) }
-            Sentence::PlacedBefore(place) => {
-                self.push_with_record(out, PLACED_BEFORE, (LogName::Pager, place))
-            }
-            Sentence::EveryOrder(reason) => out.push_str(in_every_order(reason)),
-            Sentence::ShownOrder(reason) => out.push_str(in_shown_order(reason)),
-            Sentence::Apart(page) => push_on_page(out, APART, page),
-            Sentence::MoreFaulty(more) => push_more(out, more),
-            Sentence::Faults { page, count } => push_in_all(out, page, count),
-            Sentence::FaultsFor {
-                reason,
-                count,
-                first,
-            } => self.push_kind(out, reason, count, first),
-            _ => Ok(()),
-        }
-    }
-
     /// Appends how many faults a page has for a reason, and where the first of them is.
     pub(crate) fn push_kind(
         &self,
@@ -212,6 +126,11 @@ impl<L: Lines> Teller<'_, L> {
         let where_is = if count == 1 { "at" } else { "the first at" };
         write!(out, "  {what}: {count}, {where_is} ")?;
         self.push_place(out, (log_of(reason), first))
+    }
+
+    /// Appends which record is wrong.
+    pub(crate) fn push_wrong(&self, out: &mut String, name: Name) -> Result<(), AllocError> {
+        self.push_of_record(out, " is wrong", name)
     }
 
     /// Appends what a lost write or release was.
@@ -252,7 +171,66 @@ impl<L: Lines> Teller<'_, L> {
         if let Some(GuestRec::Read { cell, value, .. }) = self.session.guest().get(read as usize) {
             write!(out, "Cell {cell} keeps {value}, ")?;
         }
-        self.push_with_guest_or(out, ["which it has since ", "as at the start."], since)
+        self.push_with_record_or(
+            out,
+            "which it has since ",
+            "as at the start.",
+            LogName::Guest,
+            since,
+        )
+    }
+
+    /// Appends the placement that no look before a use reaches.
+    pub(crate) fn push_unreached(&self, out: &mut String, place: u32) -> Result<(), AllocError> {
+        self.push_with_place(
+            out,
+            "The guest is at the target by then, and no look before this use reaches the placement of the page, ",
+            (LogName::Pager, place),
+        )
+    }
+
+    /// Appends the look that reaches furthest.
+    pub(crate) fn push_furthest(
+        &self,
+        out: &mut String,
+        look: Option<u32>,
+    ) -> Result<(), AllocError> {
+        self.push_with_record_or(
+            out,
+            "Of the looks before it, this one reaches furthest: ",
+            "The guest looks at no placement before it.",
+            LogName::Guest,
+            look,
+        )
+    }
+
+    /// Appends the first look that reaches a placement, after words that say what it is too late for.
+    pub(crate) fn push_late(
+        &self,
+        out: &mut String,
+        words: &str,
+        look: Option<u32>,
+    ) -> Result<(), AllocError> {
+        self.push_with_record_or(
+            out,
+            words,
+            "No look reaches it at all.",
+            LogName::Guest,
+            look,
+        )
+    }
+
+    /// Appends the release over which a page is placed.
+    pub(crate) fn push_released_first(
+        &self,
+        out: &mut String,
+        place: u32,
+    ) -> Result<(), AllocError> {
+        self.push_with_record(
+            out,
+            "The first use of the page at the target is a release, which makes it zeros there: ",
+            (LogName::Guest, place),
+        )
     }
 
     /// Appends what a placement overwrites if it comes after the release.
@@ -270,5 +248,33 @@ impl<L: Lines> Teller<'_, L> {
             }
             _ => out.push_str("old contents over the zeros."),
         }
+    }
+
+    /// Appends the last change of a page before the halt.
+    pub(crate) fn push_changed_last(
+        &self,
+        out: &mut String,
+        place: Option<u32>,
+    ) -> Result<(), AllocError> {
+        self.push_with_record_or(
+            out,
+            "Its last change before the halt is ",
+            "The guest neither writes nor releases it before the halt.",
+            LogName::Guest,
+            place,
+        )
+    }
+
+    /// Appends the placement before a second one.
+    pub(crate) fn push_placed_before(
+        &self,
+        out: &mut String,
+        place: u32,
+    ) -> Result<(), AllocError> {
+        self.push_with_record(
+            out,
+            "A page is placed once, and this one was placed before: ",
+            (LogName::Pager, place),
+        )
     }
 }

@@ -1,9 +1,9 @@
 //! The sentences about a page or a line that is asked for, and about a page's story, in words.
 
 use super::Teller;
-use crate::sentences::Sentence;
 use audit_report::Lines;
 use migration_types::{LogName, PageNo};
+use session_story::Name;
 use std::alloc::AllocError;
 
 /// Appends that the machine has no page of this number, and how many it has.
@@ -16,103 +16,37 @@ pub(crate) fn push_no_page(out: &mut String, number: u32, pages: u32) -> Result<
     }
 }
 
-const HEADING: [&str; 2] = ["What the logs say of page ", ":"];
-
-/// Appends words on a page, with its number between them.
-pub(crate) fn push_on_page(
-    out: &mut String,
-    words: [&str; 2],
-    page: PageNo,
-) -> Result<(), AllocError> {
-    let [before, behind] = words;
-    let page = page.number();
-    write!(out, "{before}{page}{behind}")
-}
-
 /// Appends whether a page has a fault.
 pub(crate) fn push_verdict(
     out: &mut String,
     page: PageNo,
     is_faulty: bool,
 ) -> Result<(), AllocError> {
-    let which = if is_faulty {
-        " has a fault."
-    } else {
-        " has no fault."
-    };
-    push_on_page(out, ["Page ", which], page)
+    let page = page.number();
+    let which = if is_faulty { "a" } else { "no" };
+    write!(out, "Page {page} has {which} fault.")
+}
+
+/// Appends the heading, which names the page of the story.
+pub(crate) fn push_heading(out: &mut String, page: PageNo) -> Result<(), AllocError> {
+    let page = page.number();
+    write!(out, "What the logs say of page {page}:")
 }
 
 impl<L: Lines> Teller<'_, L> {
-    /// Appends a sentence about a page or a line.
-    pub(crate) fn push_about_page(
-        &self,
-        out: &mut String,
-        sentence: &Sentence,
-    ) -> Result<(), AllocError> {
-        match *sentence {
-            Sentence::StoryOf(page) => push_on_page(out, HEADING, page),
-            Sentence::Change { halted, place } => self.push_change(out, halted, place),
-            Sentence::Halt(place) => self.push_step(
-                out,
-                LogName::Guest,
-                "",
-                "the guest is not halted",
-                place,
-            ),
-            Sentence::Sending(place) => self.push_step(
-                out,
-                LogName::Source,
-                "",
-                "the source does not send it",
-                place,
-            ),
-            Sentence::Delivery { log, place } => self.push_delivery(out, log, place),
-            Sentence::Taking(place) => self.push_step(
-                out,
-                LogName::Pager,
-                "",
-                "the pager does not take it",
-                place,
-            ),
-            Sentence::Placement(place) => self.push_step(
-                out,
-                LogName::Pager,
-                "",
-                "the pager does not place it",
-                place,
-            ),
-            Sentence::SecondPlacement(place) => self.push_step(
-                out,
-                LogName::Pager,
-                ", its second placement",
-                "",
-                Some(place),
-            ),
-            Sentence::FirstLook(place) => self.push_step(
-                out,
-                LogName::Guest,
-                ", the first look that reaches its placement",
-                "no look of the guest reaches a placement of it",
-                place,
-            ),
-            Sentence::FirstUse { releases, place } => self.push_first_use(out, releases, place),
-            Sentence::NoPage { number, pages } => push_no_page(out, number, pages),
-            Sentence::Verdict { page, is_faulty } => push_verdict(out, page, is_faulty),
-            Sentence::NoRecord(line) => self.push_no_record(out, line),
-            Sentence::Stands(name) => self.push_with_record(out, "This is ", name),
-            _ => Ok(()),
-        }
-    }
-
     /// Appends that there is no record at a line.
     pub(crate) fn push_no_record(&self, out: &mut String, line: u32) -> Result<(), AllocError> {
         let line = self.lines.line(line);
         write!(out, "Line {line} tells no record of the logs.")
     }
 
+    /// Appends the record at a line.
+    pub(crate) fn push_stands(&self, out: &mut String, name: Name) -> Result<(), AllocError> {
+        self.push_with_record(out, "This is ", name)
+    }
+
     /// Appends a line of a page's story: a record and its role, or that there is none.
-    pub(crate) fn push_step(
+    fn push_step(
         &self,
         out: &mut String,
         log: LogName,
@@ -156,6 +90,26 @@ impl<L: Lines> Teller<'_, L> {
         }
     }
 
+    /// Appends the guest's halt.
+    pub(crate) fn push_halt(&self, out: &mut String, place: Option<u32>) -> Result<(), AllocError> {
+        self.push_step(out, LogName::Guest, "", "the guest is not halted", place)
+    }
+
+    /// Appends the sending of a page.
+    pub(crate) fn push_sending(
+        &self,
+        out: &mut String,
+        place: Option<u32>,
+    ) -> Result<(), AllocError> {
+        self.push_step(
+            out,
+            LogName::Source,
+            "",
+            "the source does not send it",
+            place,
+        )
+    }
+
     /// Appends the delivery of a page.
     pub(crate) fn push_delivery(
         &self,
@@ -169,6 +123,60 @@ impl<L: Lines> Teller<'_, L> {
             "the link does not deliver it"
         };
         self.push_step(out, log, "", none, place)
+    }
+
+    /// Appends the record by which the pager took a page.
+    pub(crate) fn push_taking(
+        &self,
+        out: &mut String,
+        place: Option<u32>,
+    ) -> Result<(), AllocError> {
+        self.push_step(out, LogName::Pager, "", "the pager does not take it", place)
+    }
+
+    /// Appends the placement of a page.
+    pub(crate) fn push_placement(
+        &self,
+        out: &mut String,
+        place: Option<u32>,
+    ) -> Result<(), AllocError> {
+        self.push_step(
+            out,
+            LogName::Pager,
+            "",
+            "the pager does not place it",
+            place,
+        )
+    }
+
+    /// Appends the second placement of a page.
+    pub(crate) fn push_second_placement(
+        &self,
+        out: &mut String,
+        place: u32,
+    ) -> Result<(), AllocError> {
+        self.push_step(
+            out,
+            LogName::Pager,
+            ", its second placement",
+            "",
+            Some(place),
+        )
+    }
+
+    /// Appends the first look that reaches a placement of a page.
+    pub(crate) fn push_first_look(
+        &self,
+        out: &mut String,
+        place: Option<u32>,
+    ) -> Result<(), AllocError> {
+        self.push_step(
+            out,
+            LogName::Guest,
+            ", the first look that reaches its placement",
+            "no look of the guest reaches a placement of it",
+            place,
+        )
     }
 
     /// Appends the first use of a page at the target.

@@ -173,6 +173,11 @@ impl<L: Lines> Teller<'_, L> {
         self.push_place_behind(out, "line", name)
     }
 
+    /// Appends the place of a record, at the beginning of a sentence.
+    pub(crate) fn push_place_first(&self, out: &mut String, name: Name) -> Result<(), AllocError> {
+        self.push_place_behind(out, "Line", name)
+    }
+
     /// Appends what a record did.
     pub(crate) fn push_done(&self, out: &mut String, name: Name) -> Result<(), AllocError> {
         let session = self.session;
@@ -200,7 +205,7 @@ impl<L: Lines> Teller<'_, L> {
         is: &str,
         name: Name,
     ) -> Result<(), AllocError> {
-        self.push_place_behind(out, "Line", name)?;
+        self.push_place_first(out, name)?;
         out.push_str(is)?;
         out.push_str(": ")?;
         self.push_done(out, name)?;

@@ -1,8 +1,6 @@
 //! The sentences about a record that does not have the right shape, in words.
 
 use super::Teller;
-use super::knots::NO_ORDER;
-use crate::sentences::Sentence;
 use audit_report::Lines;
 use migration_types::{GuestRec, LaneRec, LinkRec, LogName, PagerRec, Session, SourceRec, Version};
 use session_story::{Handover, Name};
@@ -13,17 +11,6 @@ const IDLE: &str = "The guest does nothing between its halt and its resume.";
 
 /// The records that go down, over the link or the lane.
 const SENDING: &str = "a `state`, a `send` or an `again` of the source";
-
-const RESUMED_TOO: &str =
-    "The guest was resumed at the target, so from this `back` on it may run at both sides: ";
-
-const FIRST_ACCESS: [&str; 2] = [
-    "Its first access there: ",
-    "It read and wrote nothing there.",
-];
-
-const SENT_BEFORE: &str =
-    "A page is sent once, and then repeated by `again`; this one was sent before: ";
 
 /// Returns the rule that a record of the guest breaks.
 fn phase_rule(session: &Session, place: u32) -> &'static str {
@@ -59,6 +46,21 @@ fn source_wants(rec: &SourceRec) -> Option<&'static str> {
     }
 }
 
+/// Returns what a record of the link must name.
+fn link_wants(rec: &LinkRec) -> Option<&'static str> {
+    match rec {
+        LinkRec::Down { .. } => Some(SENDING),
+        LinkRec::Up { .. } => Some("a `want` or an `all` of the pager"),
+    }
+}
+
+/// Returns what a record of the lane must name.
+fn lane_wants(rec: &LaneRec) -> Option<&'static str> {
+    match rec {
+        LaneRec::Down { .. } => Some(SENDING),
+    }
+}
+
 /// Returns what a record of the pager must name, in a session with a lane or without one.
 fn pager_wants(rec: &PagerRec, has_lane: bool) -> Option<&'static str> {
     match rec {
@@ -79,32 +81,6 @@ fn pager_wants(rec: &PagerRec, has_lane: bool) -> Option<&'static str> {
 }
 
 impl<L: Lines> Teller<'_, L> {
-    /// Appends a sentence about a record that does not have the right shape, or about records that wait.
-    pub(crate) fn push_on_shape(
-        &self,
-        out: &mut String,
-        sentence: &Sentence,
-    ) -> Result<(), AllocError> {
-        match *sentence {
-            Sentence::Misshapen(name) => {
-                self.push_of_record(out, " does not have the right shape", name)
-            }
-            Sentence::OutOfPhase { place, handover } => self.push_phase(out, place, handover),
-            Sentence::Names { name, named } => self.push_names(out, name, named),
-            Sentence::Begins(name) => out.push_str(self.beginning(name)),
-            Sentence::SentBefore(place) => {
-                self.push_with_record(out, SENT_BEFORE, (LogName::Source, place))
-            }
-            Sentence::ResumedToo(place) => {
-                self.push_with_record(out, RESUMED_TOO, (LogName::Guest, place))
-            }
-            Sentence::FirstAccess(place) => { self.push_with_guest_or(out, FIRST_ACCESS, place) }
-            Sentence::NoOrder => out.push_str(NO_ORDER),
-            Sentence::Waits { waiting, next } => self.push_waits(out, &waiting, next),
-            _ => Ok(()),
-        }
-    }
-
     /// Returns whether the lane of the session has records. For other sessions, the sentences do not mention a lane.
     pub(crate) fn has_lane(&self) -> bool {
         !self.session.lane().is_empty()
@@ -117,15 +93,15 @@ impl<L: Lines> Teller<'_, L> {
         match name.0 {
             LogName::Guest => guest_wants(session.guest().get(n)?),
             LogName::Source => source_wants(session.source().get(n)?),
-            LogName::Link => match session.link().get(n)? {
-                LinkRec::Down { .. } => Some(SENDING),
-                LinkRec::Up { .. } => Some("a `want` or an `all` of the pager"),
-            },
-            LogName::Lane => match session.lane().get(n)? {
-                LaneRec::Down { .. } => Some(SENDING),
-            },
+            LogName::Link => link_wants(session.link().get(n)?),
+            LogName::Lane => lane_wants(session.lane().get(n)?),
             LogName::Pager => pager_wants(session.pager().get(n)?, self.has_lane()),
         }
+    }
+
+    /// Appends the record that does not have the right shape.
+    pub(crate) fn push_misshapen(&self, out: &mut String, name: Name) -> Result<(), AllocError> {
+        self.push_of_record(out, " does not have the right shape", name)
     }
 
     /// Appends the guest's record of this number, or that there is none.
@@ -208,5 +184,38 @@ impl<L: Lines> Teller<'_, L> {
             }
             _ => { "The source's log begins with `halted` and `state`, and has them nowhere else." }
         }
+    }
+
+    /// Appends the resume of a guest that the source starts again.
+    pub(crate) fn push_resumed_too(&self, out: &mut String, place: u32) -> Result<(), AllocError> {
+        self.push_with_record(
+            out,
+            "The guest was resumed at the target, so from this `back` on it may run at both sides: ",
+            (LogName::Guest, place),
+        )
+    }
+
+    /// Appends the guest's first access at the target, if there is one.
+    pub(crate) fn push_first_access(
+        &self,
+        out: &mut String,
+        place: Option<u32>,
+    ) -> Result<(), AllocError> {
+        self.push_with_record_or(
+            out,
+            "Its first access there: ",
+            "It read and wrote nothing there.",
+            LogName::Guest,
+            place,
+        )
+    }
+
+    /// Appends the `send` before a second one.
+    pub(crate) fn push_sent_before(&self, out: &mut String, place: u32) -> Result<(), AllocError> {
+        self.push_with_record(
+            out,
+            "A page is sent once, and then repeated by `again`; this one was sent before: ",
+            (LogName::Source, place),
+        )
     }
 }
