@@ -232,17 +232,10 @@ pub(crate) fn push_record(
     push(out, b"</g>\n")
 }
 
-/// Appends a row of folded records, with these words in a frame.
-fn push_fold_words(
-    out: &mut Vec<u8>,
-    columns: Columns,
-    row: usize,
-    words: &[u8],
-) -> Result<(), AllocError> {
-    let middle = COLUMNS_LEFT.saturating_add(columns.width()) / 2;
-    let letters = words.len() as u64;
+/// Appends the frame around folded records, for this many letters.
+fn push_frame(out: &mut Vec<u8>, middle: u64, row: usize, letters: u64) -> Result<(), AllocError> {
     let width = letters.saturating_mul(LETTER).saturating_add(FOLD_BESIDE);
-    push(out, b"<g class='row fold-row'><rect")?;
+    push(out, b"<rect")?;
     push_attribute(out, b"class", FOLD_FRAME.class)?;
     push_length(out, b"height", FOLD)?;
     push_length(out, b"rx", FOLD_CORNER)?;
@@ -250,7 +243,19 @@ fn push_fold_words(
     push_length(out, b"x", middle.saturating_sub(width / 2))?;
     push_length(out, b"width", width)?;
     push_length(out, b"y", top_of(row).saturating_add(FOLD_TOP))?;
-    push(out, b"/>")?;
+    push(out, b"/>")
+}
+
+/// Appends a row of folded records, with these words.
+fn push_fold_words(
+    out: &mut Vec<u8>,
+    columns: Columns,
+    row: usize,
+    words: &[u8],
+) -> Result<(), AllocError> {
+    let middle = COLUMNS_LEFT.saturating_add(columns.width()) / 2;
+    push(out, b"<g class='row fold-row'>")?;
+    push_frame(out, middle, row, words.len() as u64)?;
     begin_text(out, SOFT)?;
     push_attribute(out, b"text-anchor", b"middle")?;
     push_length(out, b"x", middle)?;
