@@ -454,7 +454,8 @@ def memory(tests):
 
 
 def beyond_by_the_recorders(tests):
-    """recorders/session cuts the windows of a machine that is larger than any session's out of the files, in one folder or in two."""
+    """recorders/session cuts the windows of a machine that is larger than any session's out of the files, in one folder or in two, or of the
+    files that the package for Python writes."""
     few, pages, size = SessionText(text_of(f"{TOP}/examples/recording/session")), 20_000_000, 7_000_000
     few.tell_in(3)
     few.head[1] = f"pages {pages}"
@@ -462,10 +463,11 @@ def beyond_by_the_recorders(tests):
     for folder in ("one", "here"):
         files_of(few, f"{tests.room}/{folder}")
         tests.put(f"{folder}/read.me", "")
+    session_of_text(few.text()).write_files(f"{tests.room}/made")
     os.mkdir(f"{tests.room}/there")
     os.rename(f"{tests.room}/here/pager.1.0", f"{tests.room}/there/pager.1.0")
     tests.put("there/read.me", "")
-    for folders in (["one"], ["here", "there"]):
+    for folders in (["one"], ["here", "there"], ["made"]):
         ran = script(tests, *folders, "--window", "1-2", "-o", f"window-{folders[0]}")
         wanted = ("", 0, window(few.text(), 1, 2)[0])
         tests.same(f"a window of the files in {folders}", (ran.stdout, ran.returncode, tests.has(f"window-{folders[0]}")), wanted)

@@ -5,6 +5,8 @@ Nothing here needs the library.
 """
 from __future__ import annotations
 
+import os
+import secrets
 from bisect import bisect_left
 from collections import Counter
 from dataclasses import dataclass, field
@@ -87,6 +89,23 @@ class Session:
                 for record in self.logs[log]:
                     yield f"{spelled(record)}\n"
         yield "end\n"
+
+    def write_files(self, folder: str) -> None:
+        """Writes the files that recorders leave, one for each log, into a new folder. The machine and the logs may have any size: the
+        program's command `session` makes the session of the files, and `window` that of some pages. A log of the link that has no record
+        gets no file, nor does one of the lane, unless there is a lane. Raises ValueError if a page has too many cells, and OSError if the
+        folder is there or cannot be written."""
+        if self.cells > MOST_CELLS:
+            raise ValueError(f"{self.cells} cells are too many: a page has at most {MOST_CELLS}")
+        has_lane, name = self.has_lane or bool(self.logs["lane"]), secrets.token_hex(16)
+        machine = [f"pages {self.pages} {self.cells} {int(has_lane)}", *(f"page {page} {self.initial[page]}" for page in sorted(self.initial))]
+        logs = {log: self.logs[log] for log in LOGS if self.logs[log] or log != "link" and (has_lane or log != "lane")}
+        os.mkdir(folder)
+        for log, lines in (("machine", machine), *((log, map(spelled, records)) for log, records in logs.items())):
+            with open(os.path.join(folder, f"{log}.1.0"), "x", encoding="ascii") as file:
+                file.write(f"postcopy-records 1\nrecording {name}\nlog {log} 0 0\n")
+                file.writelines(f"{number} {line}\n" for number, line in enumerate(lines))
+                file.write(f"end {len(logs.get(log, machine))}\n")
 
     def deliver(self, place: Place = _place) -> None:
         """Makes the logs of the link and the lane, if the receiver of each message recorded which one it is.
