@@ -474,6 +474,7 @@ def beyond_by_the_recorders(tests):
         ran = script(tests, *folders, "--windows", str(size), "-o", f"windows-{folders[0]}")
         found = {name: tests.has(f"windows-{folders[0]}/{name}") for name in os.listdir(f"{tests.room}/windows-{folders[0]}")}
         tests.same(f"the windows of the files in {folders}", (ran.stdout, ran.returncode, found), ("", 0, whole))
+    tests.same("a window of the files that Python writes", tests.run("window", "made", 1, 2), (window(few.text(), 1, 2)[0], "", 0))
     ran = script(tests, "one", "--window", "1-2", "--cut")
     told = "session: beyond the limits of a session, windows are cut out of files that lack nothing\n"
     tests.same("a window with --cut", (ran.stdout, ran.stderr.endswith(told), ran.returncode), ("", True, 2))
@@ -526,6 +527,6 @@ def test_windows(tests):
 
 @pytest.mark.parametrize("part", (
     pytest.param(wrong_words, marks=pytest.mark.cases(45)), pytest.param(pipes, marks=pytest.mark.cases(5)), pytest.param(many_windows, marks=pytest.mark.cases(20)),
-    pytest.param(memory, marks=pytest.mark.cases(2)), pytest.param(beyond_by_the_recorders, marks=pytest.mark.cases(6)), pytest.param(beyond_in_python, marks=pytest.mark.cases(9))), ids=lambda it: it.__name__)
+    pytest.param(memory, marks=pytest.mark.cases(2)), pytest.param(beyond_by_the_recorders, marks=pytest.mark.cases(9)), pytest.param(beyond_in_python, marks=pytest.mark.cases(9))), ids=lambda it: it.__name__)
 def test_alone(tests, part):
     part(tests)

@@ -88,6 +88,12 @@ def _read_name(path: str) -> str:
     return name
 
 
+def head_of(recording: Optional[str], party: str, first: int, opening: int) -> str:
+    """Returns the lines that a file of a log begins with, whose first record has this number, and with whose file of this number the log was
+    opened."""
+    return f"postcopy-records 1\nrecording {recording}\nlog {party} {first} {opening}\n"
+
+
 def _is_of(file: int, head: bytes, _pread: Any = os.pread) -> bool:
     """Whether a descriptor is one of the log's file, which begins so. A program may close what it did not open, as by os.closerange, and open a
     file of its own that gets the number: nothing may be done to that one. (On a network, to ask for the inode may take a write to the server.)"""
@@ -139,7 +145,7 @@ class Log:
             path = f"{stem}.{number}"
             with contextlib.suppress(FileExistsError):
                 self._file = _above_standard(os.open(path, os.O_RDWR | os.O_APPEND | os.O_CREAT | os.O_EXCL | os.O_CLOEXEC, 0o666))
-        head = f"postcopy-records 1\nrecording {self.recording}\nlog {self._party} {self._next} {number}\n"
+        head = head_of(self.recording, self._party, self._next, number)
         try:
             self._put(head)
         except OSError:

@@ -12,6 +12,7 @@ from collections import Counter
 from dataclasses import dataclass, field
 from typing import Callable, Dict, Iterator, List, Tuple
 
+from .recorder import head_of, join
 from .records import LARGE, LOGS, LOST, MOST_CELLS, RECEIVED, RECORDS, SMALL, Limits, Record, named, page_of, spelled
 
 __all__ = ["Session"]
@@ -71,11 +72,14 @@ class Session:
             )
         return "".join(self.lines())
 
+    def _check_cells(self) -> None:
+        if self.cells > MOST_CELLS:
+            raise ValueError(f"{self.cells} cells are too many: a page has at most {MOST_CELLS}")
+
     def lines(self) -> Iterator[str]:
         """Yields the lines of the text, each with its line feed. The machine and the logs may have any size: then they are those of a
         recording, of which `windows` makes sessions. Raises ValueError if a page has too many cells."""
-        if self.cells > MOST_CELLS:
-            raise ValueError(f"{self.cells} cells are too many: a page has at most {MOST_CELLS}")
+        self._check_cells()
         version = self.version()
         yield f"postcopy-session {version}\n"
         yield f"pages {self.pages}\n"
@@ -95,15 +99,15 @@ class Session:
         program's command `session` makes the session of the files, and `window` that of some pages. A log of the link that has no record
         gets no file, nor does one of the lane, unless there is a lane. Raises ValueError if a page has too many cells, and OSError if the
         folder is there or cannot be written."""
-        if self.cells > MOST_CELLS:
-            raise ValueError(f"{self.cells} cells are too many: a page has at most {MOST_CELLS}")
+        self._check_cells()
         has_lane, name = self.has_lane or bool(self.logs["lane"]), secrets.token_hex(16)
         machine = [f"pages {self.pages} {self.cells} {int(has_lane)}", *(f"page {page} {self.initial[page]}" for page in sorted(self.initial))]
         logs = {log: self.logs[log] for log in LOGS if self.logs[log] or log != "link" and (has_lane or log != "lane")}
         os.mkdir(folder)
+        join(folder, name)
         for log, lines in (("machine", machine), *((log, map(spelled, records)) for log, records in logs.items())):
             with open(os.path.join(folder, f"{log}.1.0"), "x", encoding="ascii") as file:
-                file.write(f"postcopy-records 1\nrecording {name}\nlog {log} 0 0\n")
+                file.write(head_of(name, log, 0, 0))
                 file.writelines(f"{number} {line}\n" for number, line in enumerate(lines))
                 file.write(f"end {len(logs.get(log, machine))}\n")
 
